@@ -5,17 +5,14 @@ ghost use Rattle.decomposition.specs.Laws.{Rules-law, Acceptance-law, Written-
 /// The rules of a tree over a list of edges, one by one, are those of a tree decomposition of the list's graph.
 pub fn rules_stand()
     ensures { λ _. ⌜ Rules-law ⌝ }
-{
-}
+{}
 
 /// A table is accepted exactly when it writes down a tree decomposition of the list's graph.
 pub fn acceptance_stands()
     ensures { λ _. ⌜ Acceptance-law ⌝ }
-{
-}
+{}
 
 /// Every tree decomposition of a list's graph is written down by an accepted table.
 pub fn writing_stands()
     ensures { λ _. ⌜ Written-law ⌝ }
-{
-}
+{}

@@ -1,0 +1,14 @@
+-- bits and members
+pub mod Bits
+-- what two sets, and three, have in common
+pub mod Sharing
+-- a loop that counts
+pub mod Counting
+-- the lowest number that passes
+pub mod Lowest
+-- Reading-law
+pub mod Reading
+-- answers with their faults in numbers
+pub mod Told
+-- the rows of a list, and the lawful ones
+pub mod Lawfully
