@@ -1,5 +1,5 @@
 -- The lowest number that passes a test, and a loop that tries one number after another.
-use mathlib.Core.Path.{_≡_, refl, sym, ap}
+use mathlib.Core.Path.{_≡_, refl, sym, ap, subst}
 use mathlib.Core.Bool.{Bool, true, false, cond}
 use mathlib.Core.Logic.{inl, inr, ⊎-elim}
 use Prim.Native.Nat.{ℕ, zero, suc, _+_, _<_}
@@ -45,6 +45,10 @@ says-more n test None false s e = λ k h. ⊎-elim (s k) (λ ge. let is : k ≡ 
 pub lowest-says : (n : ℕ) (test : ℕ → Bool) → Says n test (lowest n test)
 lowest-says zero test = λ k h. absurd (omega arith)
 lowest-says (suc n) test = says-more n test (lowest n test) (test n) (lowest-says n test) refl
+
+-- no number passes where none is found
+pub none-clears : (n : ℕ) (test : ℕ → Bool) → lowest n test ≡ None → Clear n test
+none-clears n test e = subst (Says n test) e (lowest-says n test)
 
 -- a test that asks whether any number passes, and none does
 absent : (n : ℕ) (test : ℕ → Bool) (o : Option ℕ) → Says n test o → present o ≡ false → Clear n test

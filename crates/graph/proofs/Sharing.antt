@@ -1,17 +1,15 @@
--- What two sets share, and when three sets are hinged by what they share two by two.
-use mathlib.Core.Path.{_≡_, refl, sym, ap, _∙_}
+-- What two sets share, read off their bits.
+use mathlib.Core.Path.{_≡_, refl, sym, _∙_}
 use mathlib.Core.Logic.{inl, inr}
-use mathlib.Core.Bool.{Bool, true, false, not, _&&_}
+use mathlib.Core.Bool.{true, false}
 use Prim.Native.Nat.{ℕ, _^_, _<_, _≤_}
 use native.Mathlib.Omega.{arith}
 use lib.Dec.{eqb}
 use Rattle.std.proofs.shelf.Bits.{pow-below}
-use Rattle.std.proofs.shelf.Tests.{cases-eq, cases-bool, both-ways, eqb-true, eq-eqb, and-parts}
-use Rattle.std.proofs.shelf.Ways.{tells}
-use Rattle.decomposition.specs.Sets.{Subset, count, meet}
-use Rattle.decomposition.specs.Trees.{Hinged, hinge-test}
-use Rattle.decomposition.proofs.HingeTest.{count-single, none-count, count-none, test-hinged, hinged-test}
-use Rattle.graph.specs.ElementSets.{has, how-many, hinges}
+use Rattle.std.proofs.shelf.Tests.{cases-eq, cases-bool, both-ways, eq-eqb}
+use Rattle.decomposition.specs.Sets.{Subset, count}
+use Rattle.decomposition.proofs.HingeTest.{count-single, none-count, count-none}
+use Rattle.graph.specs.ElementSets.{has, how-many}
 use Rattle.graph.proofs.Bits.{has-none, has-one, has-below, same-bits}
 
 -- nothing is shared

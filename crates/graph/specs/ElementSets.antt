@@ -1,10 +1,8 @@
 -- Sets of elements held as the bits of a number, and what two sets have in common.
 use mathlib.Core.Path.{_≡_}
-use mathlib.Core.Bool.{Bool, false, not, _&&_}
 use Prim.Native.Nat.{ℕ, _/_, _%_, _^_, _≤_}
 use lib.Dec.{eqb}
 use Rattle.decomposition.specs.Sets.{Subset, count}
-use Rattle.decomposition.specs.Trees.{hinge-test}
 use Rattle.graph.specs.Limits.{most-elements}
 use Rattle.graph.specs.declared.element_set.ElementSet.{ElementSet}
 use Rattle.graph.specs.declared.element_set.Shared.{Shared}
@@ -27,7 +25,3 @@ abbrev pub Shares : Subset → Shared → Type 0
 Shares S Nothing = how-many S ≡ 0
 Shares S (One k) = (i : ℕ) → S i ≡ eqb i k
 Shares S Several = 2 ≤ how-many S
-
--- two by two the sets share one element, and all three share none
-unfoldable pub hinges : Subset → Subset → Subset → Bool
-hinges A B C = hinge-test most-elements A B C
