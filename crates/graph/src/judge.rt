@@ -53,3 +53,30 @@ pub fn judge_list(kinds: &[u8], dimensions: &[Dimension]) -> Result<(), ListFaul
 pub fn reading_stands()
     ensures { λ _. ⌜ Reading-law ⌝ }
 {}
+
+#[cfg(test)]
+mod tests {
+    use super::*;
+    use crate::refusal::Refusal;
+    use crate::refusal::RefusalDebug;
+    use crate::refusal::RefusalPartialEq;
+    use std::test::*;
+
+    #[test]
+    fn a_pair_has_one_dimension() -> Result<(), Fail> {
+        let d = Dimension {
+            lower: 0,
+            higher: 1,
+            grade: 1,
+        };
+        let Err(fault) = judge_list(&[0, 0], &[d, d]) else {
+            return Err(Fail::new("accepted"));
+        };
+        let wanted = Refusal {
+            layer: 2,
+            number: 11,
+            place: 1,
+        };
+        check_eq(fault.refusal(), wanted)
+    }
+}

@@ -94,3 +94,39 @@ pub fn rows_stand()
 pub fn examples_stand()
     ensures { λ _. ⌜ Examples ⌝ }
 {}
+
+#[cfg(test)]
+mod tests {
+    use super::check;
+    use super::*;
+    use std::test::Fail;
+    use std::test::check_eq;
+
+    fn plain(lower: u8, higher: u8) -> Dimension {
+        Dimension {
+            lower,
+            higher,
+            grade: 0,
+        }
+    }
+
+    #[test]
+    fn a_triangle_is_one_step() -> Result<(), Fail> {
+        let step = Entry::Step {
+            first: 0,
+            second: 1,
+            third: 2,
+        };
+        let plan = [
+            Entry::Leaf { place: 0 },
+            Entry::Leaf { place: 1 },
+            Entry::Leaf { place: 2 },
+            step,
+        ];
+        let dimensions = [plain(0, 1), plain(0, 2), plain(1, 2)];
+        let Ok(steps) = check(&[0, 0, 0], &dimensions, &plan) else {
+            return Err(Fail::new("refused"));
+        };
+        check_eq(steps, 1)
+    }
+}

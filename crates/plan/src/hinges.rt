@@ -10,10 +10,9 @@ fn differ(p: Shared, q: Shared, r: Shared) -> bool
     ensures { λ b. ⌜ b ≡ all-differ p q r ⌝ }
 {
     match (p, q, r) {
-        (Shared::One { element: x }, Shared::One { element: y }, Shared::One { element: z }) => x
-            != y
-            && y != z
-            && z != x,
+        (Shared::One { element: x }, Shared::One { element: y }, Shared::One { element: z }) => {
+            x != y && y != z && z != x
+        }
         _ => false,
     }
 }
