@@ -6,9 +6,9 @@ pub mod Sharing
 pub mod Counting
 -- the lowest number that passes
 pub mod Lowest
--- Reading-law
-pub mod Reading
 -- answers with their faults in numbers
 pub mod Told
+-- Reading-law
+pub mod Reading
 -- the rows of a list, and the lawful ones
 pub mod Lawfully

@@ -1,14 +1,29 @@
 -- How the first refusal of rows is read.
 use mathlib.Core.Path.{_≡_, refl, sym, ap, subst, _∙_}
-use mathlib.Core.Logic.{_⊎_, inl, inr}
+use mathlib.Core.Logic.{_↔_}
 use mathlib.Core.List.{List, [], _∷_, _++_}
 use Prim.Native.Nat.{ℕ}
-use native.Mathlib.Omega.{arith}
 use Rattle.std.specs.declared.option.Option.{Option}
 use Rattle.std.specs.declared.option.Option.the-variants.{Some, None}
-use Rattle.graph.specs.Rows.{Row, report, reported, or-else, lowest, row-refusal, first-refusal, Clear, AllClear, Refuses, Reading-law}
+use Rattle.std.specs.declared.result.Result.{Result}
+use Rattle.std.specs.declared.result.Result.the-variants.{Err}
+use Rattle.graph.specs.Rows.{
+  Row,
+  report,
+  reported,
+  or-else,
+  lowest,
+  row-refusal,
+  first-refusal,
+  answered,
+  Clear,
+  AllClear,
+  Refuses,
+  Reading-law,
+}
 use Rattle.graph.specs.declared.refusal.Refusal.{Refusal}
 use Rattle.graph.proofs.Lowest.{Lowest, Says, lowest-says, lowest-none, lowest-found}
+use Rattle.graph.proofs.Told.{answered-err}
 
 -- what an answer says of the rows
 abbrev Reads : List Row → Option Refusal → Type 0
@@ -80,6 +95,14 @@ pub reading : Reading-law
 reading rows = (
   λ x. (λ e. subst (Reads rows) e (reads rows), refuses-some rows x),
   (none-clear rows, clear-none rows),
+)
+
+-- an answer by rows is a refusal exactly where a row refuses with it
+pub refusing : {X : Type 0} (rows : List Row) (x : X) (r : Result X Refusal) → r ≡ answered (first-refusal rows) x
+    → (y : Refusal) → (r ≡ Err y) ↔ Refuses rows y
+refusing rows x r e y = (
+  λ is. reading rows .0 y .0 (answered-err (first-refusal rows) x y (sym e ∙ is)),
+  λ h. e ∙ ap (λ o. answered o x) (refuses-some rows y h),
 )
 
 -- rows behind other rows

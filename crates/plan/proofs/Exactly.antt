@@ -11,13 +11,13 @@ use Rattle.std.specs.declared.result.Result.{Result}
 use Rattle.std.specs.declared.result.Result.the-variants.{Ok, Err}
 use Rattle.decomposition.specs.Trees.{Tree}
 use Rattle.decomposition.proofs.Checker.{acceptance}
-use Rattle.graph.specs.Rows.{Row, or-else, first-refusal, answered, told, AllClear, Refuses}
+use Rattle.graph.specs.Rows.{Row, or-else, first-refusal, answered, told, AllClear}
 use Rattle.graph.specs.Lists.{lower-of, higher-of, list-rows, Lawful}
 use Rattle.graph.specs.ListFaults.{list-refusal}
 use Rattle.graph.specs.declared.dimension.Dimension.{Dimension}
 use Rattle.graph.specs.declared.faults.ListFault.{ListFault}
 use Rattle.graph.specs.declared.refusal.Refusal.{Refusal}
-use Rattle.graph.proofs.Reading.{none-clear, clear-none, reading, refusal-append}
+use Rattle.graph.proofs.Reading.{none-clear, clear-none, refusal-append}
 use Rattle.graph.proofs.Told.{told-ok, answered-ok, answered-err}
 use Rattle.graph.proofs.Lawfully.{clear-lawful, lawful-clear}
 use Rattle.plan.specs.Entries.{nodes, steps}
@@ -30,7 +30,6 @@ use Rattle.plan.specs.Check.{
   AcceptedPlan,
   TreeDecomposition,
   PlanWrites,
-  Refusing,
   Accepting,
   Deciding,
   Rows-law,
@@ -78,13 +77,6 @@ module _ (ks : List ℕ) (ds : List Dimension) where
     )
 
     module _ (r : Result ℕ PlanFault) (answer : told plan-refusal r ≡ check-answer ks ds plan) where
-      pub refusing : Refusing ks ds plan (told plan-refusal r)
-      refusing x =
-          let read = reading (check-rows ks ds plan) .0 x in (
-            λ is. read .0 (answered-err (first-refusal (check-rows ks ds plan)) (steps plan) x (sym answer ∙ is)),
-            λ h. answer ∙ ap (λ o. answered o (steps plan)) (read .1 h),
-          )
-
       pub accepting : Accepting ks ds plan r
       accepting k = (
         λ is. answer-ok k .0 (sym answer ∙ ap (told plan-refusal) is),

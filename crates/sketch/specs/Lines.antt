@@ -1,0 +1,13 @@
+-- A line that is built piece by piece.
+use mathlib.Core.List.{List}
+use Prim.Native.Nat.{ℕ, _+_, _≤_}
+use lib.ListN.{take}
+use Rattle.sketch.specs.declared.line.Line.{Line}
+
+-- the bytes appended so far
+abbrev pub held : Line → List ℕ
+held l = take (l .length) (l .bytes)
+
+-- there is room for n bytes more
+abbrev pub Room : Line → ℕ → Type 0
+Room l n = l .length + n ≤ 67
