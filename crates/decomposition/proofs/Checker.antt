@@ -1,6 +1,6 @@
 -- A table is accepted exactly when it writes down a tree decomposition of the list's graph.
 use mathlib.Core.Path.{sym, subst}
-use Prim.Native.Nat.{ℕ, _<_}
+use Prim.Native.Nat.{_<_}
 use native.Mathlib.Omega.{arith}
 use lib.ListN.{length}
 use Rattle.decomposition.specs.Graphs.{graph-of, Decomposes}

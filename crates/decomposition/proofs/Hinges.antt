@@ -1,6 +1,5 @@
 -- Hinged sets: which elements they share.
 use mathlib.Core.Path.{_≡_, refl, sym, ap₂, _∙_}
-use mathlib.Core.Logic.{_≢_}
 use mathlib.Core.Bool.{true, _&&_}
 use Prim.Native.Nat.{ℕ}
 use lib.Dec.{eqb}
@@ -21,20 +20,11 @@ module _ {A B C : Subset} {a b c : ℕ} (h : Hinged A B C a b c) where
   pub a-in-first : A a ≡ true
   a-in-first = in-both A B a (h .ab) .0
 
-  pub a-in-second : B a ≡ true
-  a-in-second = in-both A B a (h .ab) .1
-
   pub b-in-second : B b ≡ true
   b-in-second = in-both B C b (h .bc) .0
 
-  pub b-in-third : C b ≡ true
-  b-in-third = in-both B C b (h .bc) .1
-
   pub c-in-third : C c ≡ true
   c-in-third = in-both C A c (h .ca) .0
-
-  pub c-in-first : A c ≡ true
-  c-in-first = in-both C A c (h .ca) .1
 
   -- no element is in all three
   pub none-in-all : (i : ℕ) → A i ≡ true → B i ≡ true → C i ≡ true → ⊥

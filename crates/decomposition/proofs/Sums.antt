@@ -1,7 +1,7 @@
 -- Bits, sums over the numbers below a bound, and how many elements below a bound a set has.
 use mathlib.Core.Path.{_≡_, refl, sym, ap, ap₂, _∙_}
 use mathlib.Core.Logic.{_≢_, _⊎_, inl, inr}
-use mathlib.Core.Bool.{Bool, true, false, _&&_, _||_}
+use mathlib.Core.Bool.{Bool, true, false, _||_}
 use Prim.Native.Nat.{ℕ, zero, suc, _+_, _*_, _-_, _<_, _≤_}
 use native.Mathlib.Nat.{add-mul, one-mul, zero-mul, mul-zero, mul-suc}
 use native.Mathlib.Omega.{arith}

@@ -1,11 +1,11 @@
 -- What a tree reaches and names.
-use mathlib.Core.Path.{_≡_, refl, sym, ap, ap₂, _∙_}
+use mathlib.Core.Path.{_≡_, refl, ap}
 use mathlib.Core.Logic.{_≢_, _⊎_, inl, inr}
-use mathlib.Core.Bool.{Bool, true, false}
-use Prim.Native.Nat.{ℕ, zero, suc, _+_, _*_, _<_, _≤_}
+use mathlib.Core.Bool.{true}
+use Prim.Native.Nat.{ℕ, zero, suc, _+_, _<_}
 use native.Mathlib.Omega.{arith}
 use lib.Dec.{eqb, ltb}
-use Rattle.std.proofs.shelf.Tests.{cases-eq, cases-lt, eqb-true, eq-eqb, ne-eqb, ltb-true, lt-ltb, or-left, or-right, or-cases, and-from}
+use Rattle.std.proofs.shelf.Tests.{cases-eq, eqb-true, eq-eqb, ne-eqb, ltb-true, lt-ltb, or-left, or-right, or-cases}
 use Rattle.decomposition.specs.Sets.{Subset, bit}
 use Rattle.decomposition.specs.Trees.{Tree, leaf, step, occurs, reach, Valid, Bounded}
 use Rattle.decomposition.proofs.Sums.{or-first, or-second, or-third, or-which}

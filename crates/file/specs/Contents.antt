@@ -8,7 +8,6 @@ use Rattle.graph.specs.declared.dimension.Dimension.{Dimension}
 use Rattle.plan.specs.declared.entry.Entry.{Entry}
 use Rattle.plan.specs.declared.entry.Entry.the-variants.{Leaf, Step}
 use Rattle.file.specs.FileLimits.{fewest-kinds, most-kinds, most-file-dimensions, fewest-file-entries, most-file-entries, byte-values}
-use Rattle.file.specs.declared.tables.Counts.{Counts}
 use Rattle.file.specs.declared.tables.Tables.{Tables}
 
 -- a kind for each element, the dimensions, and the entries of the plan

@@ -1,5 +1,4 @@
 -- Lists: a kind for each element, and a table of dimensions. Which lists are lawful, and the rows of layer 2.
-use mathlib.Core.Path.{_≡_}
 use mathlib.Core.Bool.{Bool, _&&_, _||_}
 use mathlib.Core.List.{List, [], _∷_}
 use Prim.Native.Nat.{ℕ, zero, suc, _<_, _≤_}

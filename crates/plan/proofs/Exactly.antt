@@ -2,11 +2,9 @@
 use mathlib.Core.Path.{_≡_, refl, sym, ap, ap₂, _∙_}
 use mathlib.Core.Logic.{_↔_}
 use mathlib.Core.List.{List, [], _∷_, _++_}
-use Prim.Native.Nat.{ℕ, _+_, _*_, _≤_}
+use Prim.Native.Nat.{ℕ}
 use native.Mathlib.Omega.{arith}
 use lib.ListN.{length}
-use Rattle.std.specs.declared.option.Option.{Option}
-use Rattle.std.specs.declared.option.Option.the-variants.{Some, None}
 use Rattle.std.specs.declared.result.Result.{Result}
 use Rattle.std.specs.declared.result.Result.the-variants.{Ok, Err}
 use Rattle.decomposition.specs.Trees.{Tree}
@@ -16,7 +14,6 @@ use Rattle.graph.specs.Lists.{lower-of, higher-of, list-rows, Lawful}
 use Rattle.graph.specs.ListFaults.{list-refusal}
 use Rattle.graph.specs.declared.dimension.Dimension.{Dimension}
 use Rattle.graph.specs.declared.faults.ListFault.{ListFault}
-use Rattle.graph.specs.declared.refusal.Refusal.{Refusal}
 use Rattle.graph.proofs.Reading.{none-clear, clear-none, refusal-append}
 use Rattle.graph.proofs.Told.{told-ok, answered-ok, answered-err}
 use Rattle.graph.proofs.Lawfully.{clear-lawful, lawful-clear}

@@ -1,14 +1,13 @@
 -- What an entry reaches, from what the entries that it names reach.
 use mathlib.Core.Path.{_≡_, refl, sym, ap, ap₂, _∙_}
-use mathlib.Core.Bool.{Bool, true, false, _||_, _&&_}
+use mathlib.Core.Bool.{false, _||_, _&&_}
 use mathlib.Core.List.{List}
 use Prim.Native.Nat.{ℕ, _-_, _<_}
-use native.Mathlib.Omega.{arith}
 use lib.Dec.{eqb, ltb}
 use lib.ListN.{length}
 use Rattle.std.proofs.shelf.Tests.{lt-ltb}
 use Rattle.decomposition.specs.Trees.{reach, Bounded}
-use Rattle.decomposition.specs.Tables.{names, joins, node, tree-at, root}
+use Rattle.decomposition.specs.Tables.{node, tree-at, root}
 use Rattle.decomposition.proofs.Trees.{bounded-leaf, bounded-step}
 use Rattle.decomposition.proofs.Entries.{tree-leaf, tree-step, every}
 use Rattle.graph.specs.ElementSets.{members}
@@ -22,11 +21,6 @@ use Rattle.plan.specs.PlanRows.{misnamed}
 use Rattle.plan.specs.declared.entry.Entry.{Entry}
 use Rattle.plan.specs.declared.entry.Entry.the-variants.{Leaf, Step}
 use Rattle.plan.proofs.Naming.{node-at, nodes-length, listed, rising, fits-at}
-
--- the definition
-pub reached-is : (ds : List Dimension) (plan : List Entry) (e : ℕ) → reached ds plan e ≡ reach (lower-of ds) (higher-of ds) (tree-at (nodes plan) e)
-unfolding reached
-reached-is ds plan e = refl
 
 -- the last entry, by the length of the table
 pub reached-root : (ds : List Dimension) (plan : List Entry) (i : ℕ)

@@ -8,7 +8,7 @@ use lib.Dec.{eqb, ltb}
 use lib.ListN.{length}
 use Rattle.std.proofs.shelf.Tests.{eqb-true, eq-eqb, le-ltb, ltb-false, or-parts, or-from, not-false, not-from-true}
 use Rattle.decomposition.specs.Sets.{Subset, bit, sum, count}
-use Rattle.decomposition.specs.Trees.{reach, Hinges}
+use Rattle.decomposition.specs.Trees.{Hinges}
 use Rattle.decomposition.specs.Tables.{Node, names, joins, mentions, marks, node, tree-at, named, leaves}
 use Rattle.decomposition.proofs.Sums.{sum-same}
 use Rattle.graph.specs.Rows.{Clear, AllClear}

@@ -69,8 +69,9 @@ Rows-law =
 
 -- examples
 
-abbrev pub points : ℕ → List ℕ
-points n = replicate n 0
+-- the kinds of n points
+abbrev pub point-kinds : ℕ → List ℕ
+point-kinds n = replicate n 0
 
 -- a dimension of grade 0
 abbrev pub plain : ℕ → ℕ → Dimension
@@ -89,17 +90,17 @@ Examples =
     -- layer 2
     (check-answer (0 ∷ []) [] [] ≡ Err (refusal 2 7 0))
     × (check-answer (0 ∷ 2 ∷ []) [] [] ≡ Err (refusal 2 8 1))
-    × (check-answer (points 2) (plain 0 2 ∷ []) [] ≡ Err (refusal 2 9 0))
-    × (check-answer (points 2) (plain 1 1 ∷ []) [] ≡ Err (refusal 2 10 0))
-    × (check-answer (points 2) (plain 0 1 ∷ plain 0 1 ∷ []) [] ≡ Err (refusal 2 11 1))
+    × (check-answer (point-kinds 2) (plain 0 2 ∷ []) [] ≡ Err (refusal 2 9 0))
+    × (check-answer (point-kinds 2) (plain 1 1 ∷ []) [] ≡ Err (refusal 2 10 0))
+    × (check-answer (point-kinds 2) (plain 0 1 ∷ plain 0 1 ∷ []) [] ≡ Err (refusal 2 11 1))
     -- layer 3
-    × (check-answer (points 2) (plain 0 1 ∷ []) [] ≡ Err (refusal 3 12 0))
-    × (check-answer (points 2) (plain 0 1 ∷ []) (Leaf 1 ∷ []) ≡ Err (refusal 3 13 0))
-    × (check-answer (points 2) (plain 0 1 ∷ []) (Leaf 0 ∷ Leaf 0 ∷ []) ≡ Err (refusal 3 14 0))
-    × (check-answer (points 3) triangle (Leaf 0 ∷ []) ≡ Err (refusal 3 15 1))
+    × (check-answer (point-kinds 2) (plain 0 1 ∷ []) [] ≡ Err (refusal 3 12 0))
+    × (check-answer (point-kinds 2) (plain 0 1 ∷ []) (Leaf 1 ∷ []) ≡ Err (refusal 3 13 0))
+    × (check-answer (point-kinds 2) (plain 0 1 ∷ []) (Leaf 0 ∷ Leaf 0 ∷ []) ≡ Err (refusal 3 14 0))
+    × (check-answer (point-kinds 3) triangle (Leaf 0 ∷ []) ≡ Err (refusal 3 15 1))
     -- three dimensions that meet in one element
-    × (check-answer (points 4) (plain 0 1 ∷ plain 0 2 ∷ plain 0 3 ∷ []) one-step ≡ Err (refusal 3 16 3))
-    × (check-answer (points 3) (plain 0 1 ∷ []) (Leaf 0 ∷ []) ≡ Err (refusal 3 17 0))
+    × (check-answer (point-kinds 4) (plain 0 1 ∷ plain 0 2 ∷ plain 0 3 ∷ []) one-step ≡ Err (refusal 3 16 3))
+    × (check-answer (point-kinds 3) (plain 0 1 ∷ []) (Leaf 0 ∷ []) ≡ Err (refusal 3 17 0))
     -- accepted: one dimension, and a triangle
-    × (check-answer (points 2) (plain 0 1 ∷ []) (Leaf 0 ∷ []) ≡ Ok 0)
-    × (check-answer (points 3) triangle one-step ≡ Ok 1)
+    × (check-answer (point-kinds 2) (plain 0 1 ∷ []) (Leaf 0 ∷ []) ≡ Ok 0)
+    × (check-answer (point-kinds 3) triangle one-step ≡ Ok 1)

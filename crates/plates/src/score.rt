@@ -76,10 +76,9 @@ impl Score {
         got: Verdict,
     ) -> io::Result<()> {
         self.worked = self.worked.saturating_add(1);
-        if got == wanted {
-            return println!(rt, "  {words}: {got}, as wanted");
+        if got != wanted {
+            self.differ = self.differ.saturating_add(1);
         }
-        self.differ = self.differ.saturating_add(1);
-        println!(rt, "  {words}: {got}, but wanted {wanted}")
+        println!(rt, "  {words}: wanted {wanted}, got {got}")
     }
 }

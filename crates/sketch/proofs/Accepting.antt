@@ -1,20 +1,16 @@
 -- Contents that check accepts are contents that a file can hold.
-use mathlib.Core.Path.{_≡_, refl, sym, ap, subst, _∙_}
+use mathlib.Core.Path.{_≡_, refl, subst}
 use mathlib.Core.Bool.{true, false}
-use mathlib.Core.List.{List}
-use Prim.Native.Nat.{ℕ, _<_, _≤_, max}
+use Prim.Native.Nat.{ℕ, _<_, _≤_}
 use native.Mathlib.Omega.{arith}
-use lib.ListN.{length, getD}
+use lib.ListN.{length}
 use Rattle.std.specs.Options.{isSome}
 use Rattle.std.specs.declared.option.Option.{Option}
 use Rattle.std.specs.declared.option.Option.the-variants.{Some, None}
 use Rattle.std.proofs.shelf.Tests.{both-ways}
 use Rattle.graph.specs.Rows.{first-refusal}
-use Rattle.graph.specs.Lists.{Lawful}
-use Rattle.graph.specs.declared.dimension.Dimension.{Dimension}
 use Rattle.graph.proofs.Reading.{none-clear}
 use Rattle.plan.specs.Entries.{entry-at, node-of}
-use Rattle.plan.specs.Check.{AcceptedPlan}
 use Rattle.plan.specs.declared.entry.Entry.{Entry}
 use Rattle.plan.specs.declared.entry.Entry.the-variants.{Leaf, Step}
 use Rattle.plan.proofs.Naming.{Fits, nodes-length, node-at, fits-both}

@@ -1,10 +1,9 @@
 -- Adopting a file: what is refused, and what is put in place.
-use mathlib.Core.Path.{_≡_, refl, sym, ap, ap₂, subst, _∙_}
+use mathlib.Core.Path.{_≡_, sym, ap, ap₂, subst, _∙_}
 use mathlib.Core.Bool.{false}
 use mathlib.Core.List.{List}
-use Prim.Native.Nat.{ℕ, _≤_}
+use Prim.Native.Nat.{ℕ}
 use Rattle.std.specs.Options.{isSome}
-use Rattle.std.specs.declared.option.Option.{Option}
 use Rattle.std.specs.declared.option.Option.the-variants.{Some, None}
 use Rattle.std.specs.declared.result.Result.{Result}
 use Rattle.std.specs.declared.result.Result.the-variants.{Ok, Err}
@@ -18,14 +17,14 @@ use Rattle.plan.specs.Check.{check-answer}
 use Rattle.plan.specs.PlanFaults.{plan-refusal}
 use Rattle.plan.specs.declared.entry.Entry.{Entry}
 use Rattle.plan.specs.declared.faults.PlanFault.{PlanFault}
-use Rattle.file.specs.Contents.{Contents, Within, contents, stored}
+use Rattle.file.specs.Contents.{Within, contents, stored}
 use Rattle.file.specs.Files.{file-rows, held, read, stored-answer}
 use Rattle.file.specs.FileFaults.{file-refusal}
 use Rattle.file.specs.declared.faults.FileFault.{FileFault}
 use Rattle.file.specs.declared.tables.Tables.{Tables}
 use Rattle.file.proofs.Storing.{stored-ok, stored-err, stored-long}
 use Rattle.sketch.specs.Keeping.{contents-rows, refused, Kept}
-use Rattle.sketch.specs.Sketches.{adopt-rows, adopted, counted, adopt-answer, tables-after, adopt-after}
+use Rattle.sketch.specs.Sketches.{adopt-rows, counted, adopt-answer, tables-after, adopt-after}
 
 -- check of the fronts of tables is check of their contents
 pub check-fronts : (t : Tables) (ks : List ℕ) (ds : List Dimension) (es : List Entry) (a : Result ℕ Refusal)

@@ -1,25 +1,21 @@
 -- One file for each sketch.
-use mathlib.Core.Path.{_≡_, refl, sym, ap, ap₂, subst, _∙_}
+use mathlib.Core.Path.{_≡_, refl, sym, ap₂, subst, _∙_}
 use mathlib.Core.Bool.{false}
 use mathlib.Core.List.{List}
-use Prim.Native.Nat.{ℕ, _<_, _≤_}
-use lib.ListN.{length, getD}
+use Prim.Native.Nat.{ℕ}
 use Rattle.std.specs.declared.option.Option.{Option}
 use Rattle.std.specs.declared.option.Option.the-variants.{Some, None}
-use Rattle.std.specs.declared.result.Result.the-variants.{Ok}
 use Rattle.graph.specs.Rows.{or-else, first-refusal, answered}
 use Rattle.graph.specs.declared.dimension.Dimension.{Dimension}
-use Rattle.graph.specs.declared.refusal.Refusal.{Refusal}
 use Rattle.graph.proofs.Reading.{refusal-append}
 use Rattle.graph.proofs.Told.{answered-ok}
 use Rattle.plan.specs.declared.entry.Entry.{Entry}
-use Rattle.plan.specs.declared.entry.Entry.the-variants.{Leaf}
-use Rattle.file.specs.Contents.{Contents, holding, largest, Within}
-use Rattle.file.specs.Files.{file-rows, held, read, write}
+use Rattle.file.specs.Contents.{Contents, holding, Within}
+use Rattle.file.specs.Files.{file-rows, held, write}
 use Rattle.file.proofs.ReadBack.{read-write}
 use Rattle.file.proofs.WrittenSo.{write-read}
 use Rattle.sketch.specs.Keeping.{contents-rows, refused}
-use Rattle.sketch.specs.Sketches.{adopt-rows, adopted, OneFile}
+use Rattle.sketch.specs.Sketches.{adopt-rows, OneFile}
 use Rattle.sketch.proofs.Accepting.{none-refuses, accepted-within}
 
 -- neither of two rows' refusals

@@ -1,5 +1,4 @@
 use mathlib.Core.Path.{_≡_, sym, ap, _∙_}
-use lib.ListN.{length}
 use Rattle.file.specs.Contents.{Contents, holding, Within}
 use Rattle.file.specs.Files.{write, read}
 use Rattle.file.specs.Filled.{file-bytes}

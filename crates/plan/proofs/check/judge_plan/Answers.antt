@@ -1,4 +1,4 @@
-use mathlib.Core.Path.{sym, _∙_}
+use mathlib.Core.Path.{sym}
 use Rattle.graph.proofs.Lowest.{none-clears}
 use Rattle.plan.proofs.check.judge_plan.Needs as need
 

@@ -1,5 +1,4 @@
 use mathlib.Core.Path.{_∙_}
-use Prim.Native.Nat.{_<_, _^_}
 use native.Mathlib.Omega.{arith}
 use Rattle.graph.specs.ElementSets.{members}
 use Rattle.graph.proofs.Bits.{has-below}

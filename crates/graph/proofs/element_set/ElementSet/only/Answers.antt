@@ -1,4 +1,3 @@
-use Prim.Native.Nat.{_<_, _^_}
 use native.Mathlib.Omega.{arith}
 use Rattle.graph.proofs.Bits.{trailing-only}
 use Rattle.graph.proofs.element_set.ElementSet.only.Needs as need

@@ -1,4 +1,5 @@
 use mathlib.Core.Path.{_≡_, refl}
+use Rattle.std.specs.declared.result.Result.the-variants.{Ok}
 use Rattle.std.proofs.shelf.Results.{err-from-errBy}
 use Rattle.graph.specs.Rows.{told}
 use Rattle.graph.proofs.Reading.{refusing}
@@ -44,7 +45,7 @@ pub ghost-self : need.ghost-self
 ghost-self c =
     let t = c .in-Continue-tables .tables in
     let was-read = c .in-Continue-tables .ensures tt in
-    let checked = check-fronts t _ _ _ _ (c .front-kinds .ensures) (c .front .ensures) (c .front-plan .ensures) (c .in-Continue-check .ensures tt .answer) in
+    let checked = check-fronts t _ _ _ (Ok (c .in-Continue-check .field-0)) (c .front-kinds .ensures) (c .front .ensures) (c .front-plan .ensures) (c .in-Continue-check .ensures tt .answer) in
     (accepted-kept (c .args .bytes .now) t (was-read .answer) _ checked (was-read .within), tt)
 
 pub returns : need.returns
@@ -52,7 +53,7 @@ returns c =
     let bs = c .args .bytes .now in
     let t = c .in-Continue-tables .tables in
     let was-read = c .in-Continue-tables .ensures tt in
-    let checked = check-fronts t _ _ _ _ (c .front-kinds .ensures) (c .front .ensures) (c .front-plan .ensures) (c .in-Continue-check .ensures tt .answer) in
+    let checked = check-fronts t _ _ _ (Ok (c .in-Continue-check .field-0)) (c .front-kinds .ensures) (c .front .ensures) (c .front-plan .ensures) (c .in-Continue-check .ensures tt .answer) in
     let answer = accepted-answer bs t (was-read .answer) _ checked in
     record {
       answer = answer;

@@ -1,4 +1,4 @@
-use mathlib.Core.Path.{_≡_, ap, subst, _∙_}
+use mathlib.Core.Path.{_≡_, ap, _∙_}
 use Rattle.file.specs.Contents.{contents, holding}
 use Rattle.file.specs.Files.{write}
 use Rattle.sketch.specs.Buffers.{put-answer, put-after}
