@@ -6,7 +6,6 @@ ghost use Rattle.std.specs.Vec.{made};
 use sketch::report::LONGEST_LINE;
 use sketch::report::report;
 use sketch::sketch::Sketch;
-use std::error::AnyError;
 use std::io;
 use std::io::Read;
 use std::io::Write;
@@ -30,14 +29,11 @@ fn read_input(rt: &LibcRuntime, buffer: &mut [u8]) -> io::Result<usize>
     Ok(filled)
 }
 
-fn main(rt: LibcRuntime) -> Result<(), AnyError> {
+fn main(rt: LibcRuntime) -> io::Result<()> {
     let mut buffer = [0u8; MOST_INPUT];
     let filled = read_input(&rt, &mut buffer)?;
     let outcome = Sketch::new().adopt(&buffer[0..filled]);
     let mut line = [0u8; LONGEST_LINE];
-    let Ok(length) = report(outcome, &mut line) else {
-        return Err("the line has no room".into());
-    };
-    rt.stdout().write_all(&line[0..length])?;
-    Ok(())
+    let length = report(outcome, &mut line).unwrap();
+    rt.stdout().write_all(&line[0..length])
 }

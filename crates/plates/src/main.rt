@@ -16,6 +16,7 @@ use sketch::report::LONGEST_LINE;
 use sketch::report::report;
 use sketch::sketch::Sketch;
 use std::error::AnyError;
+use std::io;
 use std::io::Write;
 
 // What adopt answers.
@@ -37,11 +38,9 @@ fn make(rt: &LibcRuntime) -> Result<Sketch, AnyError> {
 }
 
 // Saves the one sketch and has the other adopt the file.
-fn pass_on(rt: &LibcRuntime, from: &Sketch, to: &mut Sketch) -> Result<Outcome, AnyError> {
+fn pass_on(rt: &LibcRuntime, from: &Sketch, to: &mut Sketch) -> io::Result<Outcome> {
     let mut file = [0u8; MOST_BYTES];
-    let Ok(length) = from.save(&mut file) else {
-        return Err("the file had no room".into());
-    };
+    let length = from.save(&mut file).unwrap();
     let outcome = to.adopt(&file[0..length]);
     println!(rt, "It was saved as a file of {length} bytes.")?;
     println!(
@@ -53,14 +52,11 @@ fn pass_on(rt: &LibcRuntime, from: &Sketch, to: &mut Sketch) -> Result<Outcome, 
 }
 
 // Prints the report of an outcome.
-fn tell(rt: &LibcRuntime, outcome: Outcome) -> Result<(), AnyError> {
+fn tell(rt: &LibcRuntime, outcome: Outcome) -> io::Result<()> {
     let mut line = [0u8; LONGEST_LINE];
-    let Ok(length) = report(outcome, &mut line) else {
-        return Err("the line had no room".into());
-    };
+    let length = report(outcome, &mut line).unwrap();
     rt.print("The report says: ")?;
-    rt.stdout().write_all(&line[0..length])?;
-    Ok(())
+    rt.stdout().write_all(&line[0..length])
 }
 
 // Makes a sketch, saves it, adopts the file into another, checks that one and reports.
@@ -72,7 +68,8 @@ fn from_sketch_to_line(rt: &LibcRuntime) -> Result<(), AnyError> {
         return Err("the adopted plan was refused".into());
     };
     println!(rt, "Its plan was checked: {steps} steps.")?;
-    tell(rt, outcome)
+    tell(rt, outcome)?;
+    Ok(())
 }
 
 fn main(rt: LibcRuntime) -> Result<(), AnyError> {

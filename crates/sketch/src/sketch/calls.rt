@@ -1,12 +1,13 @@
 //! Making, reading, saving and replacing a sketch.
 ghost use mathlib.Core.Path.{_≡_};
+ghost use mathlib.Core.Bool.{true};
 ghost use Prim.Native.Nat.{_≤_};
 ghost use lib.ListN.{length, take};
-ghost use Rattle.std.specs.Results.{Cases};
+ghost use Rattle.std.specs.Results.{Cases, isOk};
 ghost use Rattle.std.specs.Vec.{made};
 ghost use Rattle.graph.specs.Rows.{told};
 ghost use Rattle.file.specs.Contents.{contents, stored};
-ghost use Rattle.file.specs.Files.{write};
+ghost use Rattle.file.specs.FileLimits.{most-bytes};
 ghost use Rattle.sketch.specs.SketchFaults.{sketch-refusal};
 ghost use Rattle.sketch.specs.Buffers.{put-answer, put-after};
 ghost use Rattle.sketch.specs.Sketches.{first-contents, sketch-file, adopt-answer, adopt-after, Adopting, OneFile};
@@ -104,10 +105,11 @@ impl Sketch {
     }
 
     /// Writes the sketch's file at the start of the buffer, leaves the rest, and answers the file's length. A buffer that is too
-    /// short is refused with the bytes needed, and stays as it was.
+    /// short is refused with the bytes needed, and stays as it was; one of `MOST_BYTES` places never is.
     pub fn save(&self, buffer: &mut [u8]) -> Result<usize, SketchFault>
         ensures answer { λ r. ⌜ told sketch-refusal r ≡ put-answer (sketch-file (now (self .entry))) (now (buffer .entry)) ⌝ }
         ensures after { λ _. ⌜ now (buffer .exit) ≡ put-after (sketch-file (now (self .entry))) (now (buffer .entry)) ⌝ }
+        ensures room { λ r. ⌜ (most-bytes ≤ length (now (buffer .entry)) → isOk r ≡ true) ⌝ }
         ensures file { λ _. ⌜ OneFile (contents (now (self .entry) .tables)) ⌝ }
     {
         let parts = FileParts {

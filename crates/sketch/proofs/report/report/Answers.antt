@@ -13,4 +13,5 @@ returns-in-Err c =
     record {
       answer = rw same (c .put-line-in-Err .ensures .answer);
       after = rw same (c .put-line-in-Err .ensures .after);
+      room = c .put-line-in-Err .ensures .room;
     }

@@ -1,8 +1,11 @@
 use mathlib.Core.Path.{_≡_, ap, _∙_}
+use native.Mathlib.Omega.{arith}
+use lib.ListN.{length, length-take}
 use Rattle.file.specs.Contents.{contents, holding}
 use Rattle.file.specs.Files.{write}
 use Rattle.sketch.specs.Buffers.{put-answer, put-after}
 use Rattle.sketch.specs.Sketches.{sketch-file}
+use Rattle.sketch.proofs.Fitting.{fits-ok}
 use Rattle.sketch.proofs.Filing.{one-file, parts-fit}
 use Rattle.sketch.proofs.sketch.Sketch.save.Needs as need
 
@@ -17,9 +20,13 @@ returns c =
     let s = c .args .self .now in
     let same : write (holding (c .kinds .result .now) (c .dimensions .result .now) (c .plan .result .now)) ≡ sketch-file s =
     (λ i. write (holding (c .kinds .ensures i) (c .dimensions .ensures i) (c .plan .ensures i))) in
+    let file = c .encode-file .result in
     let text = c .as-slice .ensures ∙ c .encode-file .ensures .answer ∙ same in
     record {
       answer = c .put .ensures .answer ∙ ap (λ l. put-answer l (c .args .buffer .now)) text;
       after = c .put .ensures .after ∙ ap (λ l. put-after l (c .args .buffer .now)) text;
+      room = λ h.
+          fits-ok (c .as-slice .result .now) (c .args .buffer .now) (c .put .result) (c .put .ensures .answer)
+          (omega (arith, ap length (c .as-slice .ensures), length-take (file .used) (file .bytes), file .within .0));
       file = one-file (contents (s .tables)) (s .kept .2);
     }
