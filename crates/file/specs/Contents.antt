@@ -16,6 +16,7 @@ pub record Contents : Type 0 where
   pub dimensions : List Dimension
   pub plan : List Entry
 
+-- contents from their three tables
 abbrev pub holding : List ℕ → List Dimension → List Entry → Contents
 holding ks ds es = record { kinds = ks; dimensions = ds; plan = es }
 

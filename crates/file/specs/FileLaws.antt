@@ -35,5 +35,6 @@ Examples =
     × (read (1 ∷ 0 ∷ 1 ∷ 2 ∷ []) ≡ Err (refusal 1 5 4))
     × (read (1 ∷ 0 ∷ 0 ∷ []) ≡ Err (refusal 1 5 3))
 
+-- the two laws and the examples
 abbrev pub File-law : Type 0
 File-law = Read-back × Written-so × Examples

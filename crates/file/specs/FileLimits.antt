@@ -5,21 +5,23 @@ use Prim.Native.Nat.{ℕ}
 abbrev pub version : ℕ
 version = 1
 
--- a file has 2 to 64 kinds
+-- a file has at least 2 kinds
 abbrev pub fewest-kinds : ℕ
 fewest-kinds = 2
 
+-- and at most 64
 abbrev pub most-kinds : ℕ
 most-kinds = 64
 
--- at most 125 dimensions
+-- it has at most 125 dimensions
 abbrev pub most-file-dimensions : ℕ
 most-file-dimensions = 125
 
--- and 1 to 187 entries
+-- it has at least 1 entry
 abbrev pub fewest-file-entries : ℕ
 fewest-file-entries = 1
 
+-- and at most 187
 abbrev pub most-file-entries : ℕ
 most-file-entries = 187
 

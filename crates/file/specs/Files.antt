@@ -79,6 +79,7 @@ bad-count (suc (suc k)) n = ltb n fewest-file-entries || ltb most-file-entries n
 abbrev pub bad-bytes : ℕ → ℕ → ℕ → Bool
 bad-bytes tag third fourth = ltb 1 tag || (eqb tag 0 && not (eqb third 0 && eqb fourth 0))
 
+-- the first bytes are no entry
 abbrev pub bad-entry : List ℕ → Bool
 bad-entry e = bad-bytes (byte e 0) (byte e 2) (byte e 3)
 
@@ -87,13 +88,15 @@ abbrev pub one-row : ℕ → Bool → ℕ → Row
 one-row n holds p = row-at 1 n 1 (λ _. holds) (λ _. p)
 
 module _ (bs : List ℕ) where
-  -- where the count of dimensions stands, where the count of entries stands, and where the file should end
+  -- where the count of dimensions stands
   abbrev pub dimensions-at : ℕ
   dimensions-at = 4 + byte bs 3
 
+  -- where the count of entries stands
   abbrev pub entries-at : ℕ
   entries-at = dimensions-at + 1 + 3 * byte bs dimensions-at
 
+  -- where the file should end
   abbrev pub end-at : ℕ
   end-at = entries-at + 1 + 4 * byte bs entries-at
 

@@ -1,14 +1,15 @@
 -- How large a plate may be.
 use Prim.Native.Nat.{ℕ}
 
--- a sketch has 2 to 64 elements
+-- a sketch has at least 2 elements
 abbrev pub fewest-elements : ℕ
 fewest-elements = 2
 
+-- and at most 64
 abbrev pub most-elements : ℕ
 most-elements = 64
 
--- and at most 125 dimensions
+-- it has at most 125 dimensions
 abbrev pub most-dimensions : ℕ
 most-dimensions = 125
 

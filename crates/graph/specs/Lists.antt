@@ -10,6 +10,7 @@ use Rattle.graph.specs.Limits.{fewest-elements, most-elements, most-dimensions
 use Rattle.graph.specs.Rows.{lowest, present, Row, row}
 use Rattle.graph.specs.declared.dimension.Dimension.{Dimension}
 
+-- a dimension by its lower element, its higher element and its grade
 abbrev pub dimension : ℕ → ℕ → ℕ → Dimension
 dimension l h g = record { lower = l; higher = h; grade = g }
 
@@ -17,10 +18,11 @@ dimension l h g = record { lower = l; higher = h; grade = g }
 abbrev pub at : List Dimension → ℕ → Dimension
 at ds i = getD ds i (dimension 0 0 0)
 
--- the two ends of the dimension at a place
+-- the lower end of the dimension at a place
 abbrev pub lower-of : List Dimension → ℕ → ℕ
 lower-of ds d = at ds d .lower
 
+-- and its higher end
 abbrev pub higher-of : List Dimension → ℕ → ℕ
 higher-of ds d = at ds d .higher
 

@@ -15,6 +15,7 @@ use Rattle.graph.specs.declared.refusal.Refusal.{Refusal}
 abbrev pub refusal : ℕ → ℕ → ℕ → Refusal
 refusal l n p = record { layer = l; number = n; place = p }
 
+-- a row of the table
 pub record Row : Type 0 where
   pub layer : ℕ
   -- the number that is reported for an index, and the place
@@ -51,6 +52,7 @@ abbrev pub present : Option ℕ → Bool
 present (Some p) = true
 present None = false
 
+-- what is reported for an index, where there is one
 abbrev pub reported : Row → Option ℕ → Option Refusal
 reported r (Some i) = Some (report r i)
 reported r None = None

@@ -85,6 +85,7 @@ triangle = plain 0 1 ∷ plain 0 2 ∷ plain 1 2 ∷ []
 abbrev pub one-step : List Entry
 one-step = Leaf 0 ∷ Leaf 1 ∷ Leaf 2 ∷ Step 0 1 2 ∷ []
 
+-- what check answers to small lists and plans
 abbrev pub Examples : Type 0
 Examples =
     -- layer 2

@@ -17,9 +17,11 @@ abbrev pub node-of : Entry → Node
 node-of (Leaf d) = names d
 node-of (Step a b c) = joins a b c
 
+-- a plan as such a table
 abbrev pub nodes : List Entry → List Node
 nodes plan = map node-of plan
 
+-- the entry is a step
 abbrev pub is-step : Entry → Bool
 is-step (Leaf d) = false
 is-step (Step a b c) = true
