@@ -4,10 +4,10 @@ use mathlib.Core.List.{List, [], _∷_}
 use Prim.Native.Nat.{ℕ}
 use Rattle.std.specs.declared.result.Result.the-variants.{Ok, Err}
 use Rattle.graph.specs.Lists.{dimension}
-use Rattle.graph.specs.Rows.{refusal}
+use Rattle.graph.specs.Rows.{refusal, headings}
 use Rattle.plan.specs.declared.entry.Entry.the-variants.{Leaf}
 use Rattle.file.specs.Contents.{Contents, holding, Within}
-use Rattle.file.specs.Files.{Bytes, read, write}
+use Rattle.file.specs.Files.{Bytes, file-rows, read, write}
 
 -- contents that a file can hold are read back from their file
 abbrev pub Read-back : Type 0
@@ -35,6 +35,10 @@ Examples =
     × (read (1 ∷ 0 ∷ 1 ∷ 2 ∷ []) ≡ Err (refusal 1 5 4))
     × (read (1 ∷ 0 ∷ 0 ∷ []) ≡ Err (refusal 1 5 3))
 
--- the two laws and the examples
+-- the rows stand in rising order
+abbrev pub Rows-rise : Type 0
+Rows-rise = (bs : List ℕ) → headings (file-rows bs) ≡ (1, 1) ∷ (1, 2) ∷ (1, 3) ∷ (1, 4) ∷ (1, 5) ∷ (1, 6) ∷ []
+
+-- the laws and the examples
 abbrev pub File-law : Type 0
-File-law = Read-back × Written-so × Examples
+File-law = Read-back × Written-so × Rows-rise × Examples

@@ -1,4 +1,5 @@
 //! The largest plate, 64 points each joined to the two before it, and buffers that are just long enough or too short.
+ghost use Prim.Native.Nat.{_<_};
 use crate::files::adopted;
 use crate::score::Score;
 use crate::score::Verdict;
@@ -14,21 +15,15 @@ const DIMENSIONS_AT: usize = 69;
 
 const ENTRIES_AT: usize = 445;
 
-fn put_leaf(file: &mut [u8; MOST_BYTES], entry: usize, place: usize) {
-    if entry < 187 && place < 125 {
-        file[ENTRIES_AT + 4 * entry + 1] = place as u8;
-    }
-}
-
-fn put_addition(file: &mut [u8; MOST_BYTES], i: usize) {
-    if i >= ADDITIONS {
-        return;
-    }
+// The point, its two dimensions with their leaves, and its step.
+fn put_addition(file: &mut [u8; MOST_BYTES], i: usize)
+    requires { ⌜ i < 62 ⌝ }
+{
     for near in 0..2 {
         let place = 1 + 2 * i + near;
         file[DIMENSIONS_AT + 3 * place] = (i + near) as u8;
         file[DIMENSIONS_AT + 3 * place + 1] = (i + 2) as u8;
-        put_leaf(file, 1 + 3 * i + near, place);
+        file[ENTRIES_AT + 4 * (1 + 3 * i + near) + 1] = place as u8;
     }
     let step = ENTRIES_AT + 4 * (3 + 3 * i);
     file[step] = 1;

@@ -1,5 +1,5 @@
 -- Contents that check accepts are contents that a file can hold.
-use mathlib.Core.Path.{_≡_, refl, subst}
+use mathlib.Core.Path.{_≡_, refl, ap, subst}
 use mathlib.Core.Bool.{true, false}
 use Prim.Native.Nat.{ℕ, _<_, _≤_}
 use native.Mathlib.Omega.{arith}
@@ -8,15 +8,15 @@ use Rattle.std.specs.Options.{isSome}
 use Rattle.std.specs.declared.option.Option.{Option}
 use Rattle.std.specs.declared.option.Option.the-variants.{Some, None}
 use Rattle.std.proofs.shelf.Tests.{both-ways}
-use Rattle.graph.specs.Rows.{first-refusal}
+use Rattle.graph.specs.Rows.{first-refusal, answered}
 use Rattle.graph.proofs.Reading.{none-clear}
-use Rattle.plan.specs.Entries.{entry-at, node-of}
+use Rattle.plan.specs.Entries.{entry-at, node-of, steps}
 use Rattle.plan.specs.declared.entry.Entry.{Entry}
 use Rattle.plan.specs.declared.entry.Entry.the-variants.{Leaf, Step}
 use Rattle.plan.proofs.Naming.{Fits, nodes-length, node-at, fits-both}
 use Rattle.plan.proofs.Exactly.{rows-clear}
 use Rattle.file.specs.Contents.{Contents, largest, Within}
-use Rattle.sketch.specs.Keeping.{contents-rows, refused}
+use Rattle.sketch.specs.Keeping.{contents-rows, refused, Accepted}
 
 nothing-there : {X : Type 0} (o : Option X) → isSome o ≡ false → o ≡ None
 nothing-there None e = refl
@@ -24,6 +24,10 @@ nothing-there (Some x) e = absurd (both-ways true e refl)
 
 pub none-refuses : (c : Contents) → refused c ≡ false → first-refusal (contents-rows c) ≡ None
 none-refuses c e = nothing-there (first-refusal (contents-rows c)) e
+
+-- check accepts them
+pub check-accepts : (c : Contents) → refused c ≡ false → Accepted c
+check-accepts c e = ap (λ o. answered o (steps (c .plan))) (none-refuses c e)
 
 -- an entry that names what it may has small numbers
 small-numbers : (m e : ℕ) (x : Entry) → m ≤ 125 → e < 187 → Fits m e (node-of x) → largest x < 256

@@ -5,9 +5,11 @@ use mathlib.Core.List.{List}
 use Prim.Native.Nat.{_≤_}
 use lib.ListN.{length}
 use Rattle.std.specs.Options.{isSome}
+use Rattle.std.specs.declared.result.Result.the-variants.{Ok}
 use Rattle.graph.specs.Limits.{most-elements, most-dimensions, most-entries}
 use Rattle.graph.specs.Rows.{Row, first-refusal}
-use Rattle.plan.specs.Check.{check-rows}
+use Rattle.plan.specs.Entries.{steps}
+use Rattle.plan.specs.Check.{check-rows, check-answer}
 use Rattle.file.specs.Contents.{Contents, contents}
 use Rattle.file.specs.declared.tables.Tables.{Tables}
 
@@ -18,6 +20,10 @@ contents-rows c = check-rows (c .kinds) (c .dimensions) (c .plan)
 -- some row refuses contents
 abbrev pub refused : Contents → Bool
 refused c = isSome (first-refusal (contents-rows c))
+
+-- check accepts contents, and answers the number of steps of their plan
+abbrev pub Accepted : Contents → Type 0
+Accepted c = check-answer (c .kinds) (c .dimensions) (c .plan) ≡ Ok (steps (c .plan))
 
 -- the arrays have their lengths, the counts are within them, and check accepts what is in use
 abbrev pub Kept : Tables → Type 0

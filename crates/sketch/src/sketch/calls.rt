@@ -10,6 +10,7 @@ ghost use Rattle.file.specs.Contents.{contents, stored};
 ghost use Rattle.file.specs.FileLimits.{most-bytes};
 ghost use Rattle.sketch.specs.SketchFaults.{sketch-refusal};
 ghost use Rattle.sketch.specs.Buffers.{put-answer, put-after};
+ghost use Rattle.sketch.specs.Keeping.{Accepted};
 ghost use Rattle.sketch.specs.Sketches.{first-contents, sketch-file, adopt-answer, adopt-after, Adopting, OneFile};
 use crate::buffer::put;
 use crate::faults::SketchFault;
@@ -75,9 +76,10 @@ impl Sketch {
         front(&self.tables.dimensions, self.tables.counts.dimensions)
     }
 
-    /// The entries of the plan in their order.
+    /// The entries of the plan in their order: a plan that check accepts for the sketch's list.
     pub fn plan(&self) -> &[Entry]
-        ensures { λ r. ⌜ now r ≡ contents (now (self .entry) .tables) .plan ⌝ }
+        ensures value { λ r. ⌜ now r ≡ contents (now (self .entry) .tables) .plan ⌝ }
+        ensures accepted { λ _. ⌜ Accepted (contents (now (self .entry) .tables)) ⌝ }
     {
         front(&self.tables.plan, self.tables.counts.entries)
     }

@@ -4,4 +4,4 @@ use Rattle.file.proofs.WrittenSo.{write-read}
 use Rattle.file.proofs.laws.file_stands.Needs as need
 
 pub returns : need.returns
-returns c = (read-write, write-read, (refl, refl, refl, refl, refl, refl, refl, refl, refl))
+returns c = (read-write, write-read, λ bs. refl, (refl, refl, refl, refl, refl, refl, refl, refl, refl))

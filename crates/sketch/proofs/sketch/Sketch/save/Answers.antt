@@ -12,14 +12,14 @@ use Rattle.sketch.proofs.sketch.Sketch.save.Needs as need
 pub ghost-parts : need.ghost-parts
 ghost-parts c =
     let s = c .args .self .now in
-    let w = parts-fit (contents (s .tables)) (s .kept .2) _ _ _ (c .kinds .ensures) (c .dimensions .ensures) (c .plan .ensures) in
+    let w = parts-fit (contents (s .tables)) (s .kept .2) _ _ _ (c .kinds .ensures) (c .dimensions .ensures) (c .plan .ensures .value) in
     ((w .enough-kinds, w .few-kinds, w .few-dimensions), ((w .enough-entries, w .few-entries), (w .numbers, tt)))
 
 pub returns : need.returns
 returns c =
     let s = c .args .self .now in
     let same : write (holding (c .kinds .result .now) (c .dimensions .result .now) (c .plan .result .now)) ≡ sketch-file s =
-    (λ i. write (holding (c .kinds .ensures i) (c .dimensions .ensures i) (c .plan .ensures i))) in
+    (λ i. write (holding (c .kinds .ensures i) (c .dimensions .ensures i) (c .plan .ensures .value i))) in
     let file = c .encode-file .result in
     let text = c .as-slice .ensures ∙ c .encode-file .ensures .answer ∙ same in
     record {
