@@ -5,5 +5,5 @@ pub mod faults;
 pub mod judge;
 pub mod limits;
 pub mod refusal;
-pub mod rows;
+mod rows;
 pub mod trial;
