@@ -17,9 +17,10 @@ Read-back = (c : Contents) → Within c → read (write c) ≡ Ok c
 abbrev pub Written-so : Type 0
 Written-so = (bs : List ℕ) (c : Contents) → Bytes bs → read bs ≡ Ok c → write c ≡ bs
 
--- two points with one dimension of grade 5 between them, and a plan of one leaf
+-- what small byte strings are read as
 abbrev pub Examples : Type 0
 Examples =
+    -- two points with one dimension of grade 5 between them, and a plan of one leaf
     (read (1 ∷ 0 ∷ 12 ∷ 2 ∷ 0 ∷ 0 ∷ 1 ∷ 0 ∷ 1 ∷ 5 ∷ 1 ∷ 0 ∷ 0 ∷ 0 ∷ 0 ∷ [])
     ≡ Ok (holding (0 ∷ 0 ∷ []) (dimension 0 1 5 ∷ []) (Leaf 0 ∷ [])))
     -- the same with an unknown tag
