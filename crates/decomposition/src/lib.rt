@@ -1,5 +1,7 @@
 //! Tree decompositions of graphs, and the laws about them. There is no program here: the contract of each function names a law,
 //! so that checking the crate proves it.
+#![tactic(auto)]
+
 ghost use Rattle.decomposition.specs.Laws.{RulesLaw, AcceptanceLaw, WrittenLaw, CornersLaw, CountsLaw, OverlapLaw, NeverStuckLaw, MergingRuleLaw, PlanningLaw};
 
 /// The rules of a tree over a list of edges, one by one, are those of a tree decomposition of the list's graph.

@@ -1,4 +1,6 @@
 //! Files: how a list and its plan are written as bytes, and read back. Layer 1 of the refusals.
+#![tactic(auto)]
+
 mod bytes;
 pub mod decode;
 pub mod encode;

@@ -1,5 +1,5 @@
 -- No row of a list holds anywhere exactly where the list is lawful.
-use Rattle.std.proofs.Common.{◌≡◌, ℕ, zero, suc, ◌<◌, false, ◌||◌, ltb, leb, ◌↔◌, List, length, get_or, Ok, Result, sym, ap, ◌∙◌, inl, inr, arith}
+use Rattle.std.proofs.Common.{◌≡◌, ℕ, zero, suc, ◌<◌, false, ltb, leb, ◌↔◌, List, length, get_or, Ok, Result, sym, ap, ◌∙◌, inl, inr, arith}
 use Rattle.std.proofs.lemmas.Bool.{cases_order, or_parts, or_from, ltb-false, le-ltb, leb-false, lt-leb}
 use Rattle.std.proofs.lemmas.Bool.Decides.{nat_tests}
 use Rattle.graph.specs.Rows.{AllClear, first_refusal, answered, told}

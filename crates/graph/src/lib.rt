@@ -1,4 +1,6 @@
 //! Elements, dimensions, sets of elements, and which lists of dimensions are lawful: layer 2 of the refusals.
+#![tactic(auto)]
+
 pub mod dimension;
 pub mod element_set;
 pub mod faults;

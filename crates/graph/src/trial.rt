@@ -20,7 +20,7 @@ pub trait Trial {
 
 /// The lowest index that passes.
 pub fn lowest_place<R: Trial>(trial: &R) -> Option<usize>
-    ensures { result ≡ lowest (bound trial.now) (test trial.now) }
+    ensures { result ≡ lowest (R.bound trial.now) (R.test trial.now) }
 {
     for i in 0..trial.places() {
         if trial.holds(i) {
@@ -32,7 +32,7 @@ pub fn lowest_place<R: Trial>(trial: &R) -> Option<usize>
 
 /// How many indices pass.
 pub fn count_places<R: Trial>(trial: &R) -> usize
-    ensures { result ≡ count (bound trial.now) (test trial.now) }
+    ensures { result ≡ count (R.bound trial.now) (R.test trial.now) }
 {
     let mut found = 0;
     for i in 0..trial.places() {

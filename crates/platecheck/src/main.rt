@@ -1,5 +1,7 @@
 //! platecheck: reads a sketch file from standard input, judges it, and prints one line.
 //! `yes ELEMENTS DIMENSIONS ENTRIES`, or `no LAYER NUMBER PLACE`. Everything that decides lies in the libraries.
+#![tactic(auto)]
+
 ghost use Rattle.std.specs.Prelude.{◌≤◌, length, IfOk};
 
 use sketch::report::{LONGEST_LINE, report};

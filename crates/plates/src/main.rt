@@ -1,5 +1,7 @@
 //! plates: does one task from beginning to end and says what it did, then works a table of examples
 //! and says of each what came out beside what was wanted.
+#![tactic(auto)]
+
 mod files;
 mod largest;
 mod lists;
