@@ -3,7 +3,7 @@ use Rattle.std.proofs.Common.{◌≡◌, ℕ, ◌+◌, ◌<◌, ◌≤◌, Bool,
 use Rattle.std.proofs.lemmas.Bool.{cases_eq, cases_lt, eq-eqb, ne_eqb}
 use Rattle.std.proofs.lemmas.List.{length-set, length_push, get_or_append_left, get_or_push, get_or-set_same, get_or-set_other, set_past}
 use Rattle.decomposition.specs.Sets.{bit}
-use Rattle.decomposition.specs.Tables.{Node, names, joins, mentions, named_by, unnamed, node}
+use Rattle.decomposition.specs.Tables.{Node, names, joins, mentions, named_by, node}
 use Rattle.decomposition.specs.Merging.{Lowest, Underway}
 use Rattle.decomposition.proofs.Underway.{underway_short}
 use Rattle.decomposition.proofs.MergedExists.{underway_start, underway_more}

@@ -1,5 +1,5 @@
 -- A plan in the making: what its parts mean, and what the code on it answers.
-use Rattle.std.specs.Prelude.{◌≡◌, ℕ, ◌+◌, ◌<◌, ◌≤◌, Bool, true, false, ◌&&◌, ◌⊎◌, List, [], ◌∷◌, ◌++◌, length, take, set, Some, None, Option, slice_index_or, slice_set}
+use Rattle.std.specs.Prelude.{◌≡◌, ℕ, ◌+◌, ◌<◌, ◌≤◌, Bool, true, false, ◌&&◌, ◌⊎◌, List, [], ◌∷◌, ◌++◌, length, take, Some, None, Option, slice_index_or, slice_set}
 use Rattle.decomposition.specs.Sets.{Subset}
 use Rattle.decomposition.specs.Trees.{reach}
 use Rattle.decomposition.specs.Tables.{Node, node, tree_at, unnamed}

@@ -9,14 +9,14 @@ use Rattle.plan.proofs.Exactly.{behind_list, list_fault, accepting, deciding}
 use Rattle.plan.proofs.Complete.{completing}
 use Rattle.plan.proofs.check.check.Goals as goal
 
-pub returns-in-err-judge-list : goal.returns-in-err-judge-list
-returns-in-err-judge-list c =
+pub returns-in_err-judge_list : goal.returns-in_err-judge_list
+returns-in_err-judge_list c =
     let ks = c.args.kinds.now in
     let ds = c.args.dimensions.now in
     let plan = c.args.plan.now in
-    let r = c.from-residual.result in
-    let is = err_from_is_err_and r c.from-residual.ensures.1 in
-    let answer : told plan_refusal r ≡ check_answer ks ds plan = rw (is.1, is.2) (list_fault ks ds plan _ c.in-err-judge-list.ensures.answer) in
+    let r = c.from_residual.result in
+    let is = err_from_is_err_and r c.from_residual.ensures.1 in
+    let answer : told plan_refusal r ≡ check_answer ks ds plan = rw (is.1, is.2) (list_fault ks ds plan _ c.in_err-judge_list.ensures.answer) in
     record {
       answer = answer;
       refuses = refusing (check_rows ks ds plan) (steps plan) (told plan_refusal r) answer;
@@ -30,8 +30,8 @@ returns c =
     let ks = c.args.kinds.now in
     let ds = c.args.dimensions.now in
     let plan = c.args.plan.now in
-    let r = c.judge-plan.result in
-    let answer = behind_list ks ds plan r (c.in-ok-judge-list.ensures.lawful.0 refl) c.judge-plan.ensures in
+    let r = c.judge_plan.result in
+    let answer = behind_list ks ds plan r (c.in_ok-judge_list.ensures.lawful.0 refl) c.judge_plan.ensures in
     record {
       answer = answer;
       refuses = refusing (check_rows ks ds plan) (steps plan) (told plan_refusal r) answer;

@@ -34,4 +34,4 @@ loop-three-preserved c =
 pub returns : goal.returns
 returns c =
     let h = c.loop-three.invariant in
-    record { long = h.long; room = h.room; merged = merged_draft c.args.dimensions.now c.requires.small c.loop-three.draft h c.in-default.ensures }
+    record { long = h.long; room = h.room; merged = merged_draft c.args.dimensions.now c.requires.small c.loop-three.draft h c.in_default.ensures }

@@ -1,4 +1,4 @@
 use Rattle.plan.proofs.reach.+reach.Given as goal
 
 abbrev pub decreases-reach : goal.decreases-reach
-decreases-reach l = l.initial
+decreases-reach l = l.entry
