@@ -41,8 +41,8 @@ fn bytes_of(entry: Entry) -> [u8; 4]
 
 // Four bytes for each entry.
 fn put_entries(entries: &[Entry], file: &mut FileBytes)
-    requires entries_bound { file.old.used + 4 * length entries.now ≤ most_bytes }
-    requires by_index { (e : ℕ) → e < length entries.now → largest (slice_index_or entries.now e (Leaf 0)) < byte_values }
+    requires room { file.old.used + 4 * length entries.now ≤ most_bytes }
+    requires numbers { (e : ℕ) → e < length entries.now → largest (slice_index_or entries.now e (Leaf 0)) < byte_values }
     ensures more { file_bytes file.new ≡ file_bytes file.old ++ flat_map entry_bytes entries.now }
 {
     for entry in entries {

@@ -18,8 +18,8 @@ returns c =
       few_entries = p.planned.1;
       numbers = p.numbers;
     } in
-    let is : file_bytes c.put-entries.new.file ≡ write t =
+    let is : file_bytes c.put_entries.new.file ≡ write t =
     all_pieces t _ _ _ _ _ _ _ _ _ _ _ (sym (length_body t)) c.empty-file.ensures.none
     c.push.ensures.more c.push-2.ensures.more c.push-3.ensures.more c.push-4.ensures.more c.extend.ensures.more
-    c.push-5.ensures.more c.put-dimensions.ensures.more c.push-6.ensures.more c.put-entries.ensures.more in
+    c.push-5.ensures.more c.put_dimensions.ensures.more c.push-6.ensures.more c.put_entries.ensures.more in
     record { answer = is; inverse = ap read is ∙ read_write t within }

@@ -7,5 +7,5 @@ use Rattle.file.proofs.reading.read_entries.Goals as goal
 
 pub loop-i-preserved : goal.loop-i-preserved
 loop-i-preserved c =
-    table_more get_entry 4 most_entries c.loop-i.i c.args.at (Leaf 0) c.read-entry.result c.args.bytes.now
-    c.loop-i.entries (omega arith) c.read-entry.ensures c.loop-i.invariant
+    table_more get_entry 4 most_entries c.loop-i.i c.args.at (Leaf 0) c.read_entry.result c.args.bytes.now
+    c.loop-i.entries (omega arith) c.read_entry.ensures c.loop-i.invariant

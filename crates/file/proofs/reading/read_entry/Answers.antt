@@ -20,8 +20,8 @@ module _ (bs : List ℕ) (at t a : ℕ) (p : t ≡ byte bs at) (q : a ≡ byte b
       let e : eqb (byte (drop at bs) 0) 0 ≡ false = ne_eqb _ _ (λ y. z (sym tag ∙ y)) in
       rw (q, r, s, sym (get_or-drop at bs 1 0), sym (get_or-drop at bs 2 0), sym (get_or-drop at bs 3 0)) (sym (cond-false _ _ _ e))
 
-pub returns-then-byte-at-eq0 : goal.returns-then-byte-at-eq0
-returns-then-byte-at-eq0 c = search (rules, leaf-from)
+pub returns-then-byte_at-eq0 : goal.returns-then-byte_at-eq0
+returns-then-byte_at-eq0 c = search (rules, leaf-from)
 
-pub returns-else-byte-at-eq0 : goal.returns-else-byte-at-eq0
-returns-else-byte-at-eq0 c = search (rules, step_from)
+pub returns-else-byte_at-eq0 : goal.returns-else-byte_at-eq0
+returns-else-byte_at-eq0 c = search (rules, step_from)

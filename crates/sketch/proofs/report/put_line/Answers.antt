@@ -9,6 +9,6 @@ returns c =
       answer = search rules;
       after = search rules;
       room = λ h.
-          fits_ok c.as-bytes.result.now c.args.buffer.now c.put.result c.put.ensures.answer
-          (omega (arith, ap length c.as-bytes.ensures, length-take line.length line.bytes));
+          fits_ok c.as_bytes.result.now c.args.buffer.now c.put.result c.put.ensures.answer
+          (omega (arith, ap length c.as_bytes.ensures, length-take line.length line.bytes));
     }

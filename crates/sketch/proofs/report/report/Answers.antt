@@ -10,7 +10,7 @@ returns-in-Err c =
     ≡ line_of (codes "no ") (c.from-layer.result, c.from-number.result, c.refusal-refusal.result.place)
     = simp (c.in-Err.is, c.from-layer.ensures, c.from-number.ensures, c.refusal-refusal.ensures) refl in
     record {
-      answer = rw same c.put-line-in-Err.ensures.answer;
-      after = rw same c.put-line-in-Err.ensures.after;
-      room = c.put-line-in-Err.ensures.room;
+      answer = rw same c.put_line-in-Err.ensures.answer;
+      after = rw same c.put_line-in-Err.ensures.after;
+      room = c.put_line-in-Err.ensures.room;
     }

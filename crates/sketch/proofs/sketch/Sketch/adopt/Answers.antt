@@ -8,12 +8,12 @@ use Rattle.sketch.specs.Sketches.{adopt_rows, adopt_answer, counted}
 use Rattle.sketch.proofs.Adopting.{file_refused, check_fronts, check_refused, refused_answer, accepted_answer, accepted_after, accepted_kept}
 use Rattle.sketch.proofs.sketch.Sketch.adopt.Goals as goal
 
-pub returns-in-err-tables : goal.returns-in-err-tables
-returns-in-err-tables c =
+pub returns-in_err-tables : goal.returns-in_err-tables
+returns-in_err-tables c =
     let bs = c.args.bytes.now in
-    let r = c.from-residual.result in
-    let is = err_from_is_err_and r c.from-residual.ensures.1 in
-    let says = refused_answer bs _ (file_refused bs _ c.in-err-tables.ensures.answer) in
+    let r = c.from_residual.result in
+    let is = err_from_is_err_and r c.from_residual.ensures.1 in
+    let says = refused_answer bs _ (file_refused bs _ c.in_err-tables.ensures.answer) in
     let answer : told sketch_refusal r ≡ adopt_answer bs = rw (is.1, is.2) says.0 in
     record {
       answer = answer;
@@ -23,14 +23,14 @@ returns-in-err-tables c =
       file = rw is.1 tt;
     }
 
-pub returns-in-err-check : goal.returns-in-err-check
-returns-in-err-check c =
+pub returns-in_err-check : goal.returns-in_err-check
+returns-in_err-check c =
     let bs = c.args.bytes.now in
-    let t = c.in-ok-tables.tables in
-    let r = c.from-residual-in-err-check.result in
-    let is = err_from_is_err_and r c.from-residual-in-err-check.ensures.1 in
-    let checked = check_fronts t _ _ _ _ c.front-kinds.ensures c.front.ensures c.front-plan.ensures c.in-err-check.ensures.answer in
-    let says = refused_answer bs _ (check_refused bs t c.in-ok-tables.ensures.answer c.in-err-check.field-0.0 checked) in
+    let t = c.in_ok-tables.tables in
+    let r = c.from_residual-in_err-check.result in
+    let is = err_from_is_err_and r c.from_residual-in_err-check.ensures.1 in
+    let checked = check_fronts t _ _ _ _ c.front-kinds.ensures c.front.ensures c.front-plan.ensures c.in_err-check.ensures.answer in
+    let says = refused_answer bs _ (check_refused bs t c.in_ok-tables.ensures.answer c.in_err-check.field-0.0 checked) in
     let answer : told sketch_refusal r ≡ adopt_answer bs = rw (is.1, is.2) says.0 in
     record {
       answer = answer;
@@ -40,19 +40,19 @@ returns-in-err-check c =
       file = rw is.1 tt;
     }
 
-pub invariant-of-self : goal.invariant-of-self
-invariant-of-self c =
-    let t = c.in-ok-tables.tables in
-    let was_read = c.in-ok-tables.ensures in
-    let checked = check_fronts t _ _ _ (Ok c.in-ok-check.field-0) c.front-kinds.ensures c.front.ensures c.front-plan.ensures c.in-ok-check.ensures.answer in
-    (accepted_kept c.args.bytes.now t was_read.answer _ checked was_read.within, tt)
+pub invariant_of-self : goal.invariant_of-self
+invariant_of-self c =
+    let t = c.in_ok-tables.tables in
+    let was_read = c.in_ok-tables.ensures in
+    let checked = check_fronts t _ _ _ (Ok c.in_ok-check.field-0) c.front-kinds.ensures c.front.ensures c.front-plan.ensures c.in_ok-check.ensures.answer in
+    record { kept = accepted_kept c.args.bytes.now t was_read.answer _ checked was_read.within }
 
 pub returns : goal.returns
 returns c =
     let bs = c.args.bytes.now in
-    let t = c.in-ok-tables.tables in
-    let was_read = c.in-ok-tables.ensures in
-    let checked = check_fronts t _ _ _ (Ok c.in-ok-check.field-0) c.front-kinds.ensures c.front.ensures c.front-plan.ensures c.in-ok-check.ensures.answer in
+    let t = c.in_ok-tables.tables in
+    let was_read = c.in_ok-tables.ensures in
+    let checked = check_fronts t _ _ _ (Ok c.in_ok-check.field-0) c.front-kinds.ensures c.front.ensures c.front-plan.ensures c.in_ok-check.ensures.answer in
     let answer = accepted_answer bs t was_read.answer _ checked in
     record {
       answer = answer;
