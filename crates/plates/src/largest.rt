@@ -2,11 +2,8 @@
 ghost use Rattle.std.specs.Prelude.{◌<◌};
 
 use crate::files::adopted;
-use crate::merges::merged;
 use crate::score::{Score, Verdict, refused};
 use file::limits::MOST_BYTES;
-use graph::limits::MOST_ENTRIES;
-use plan::entry::Entry;
 use sketch::sketch::Sketch;
 use std::io;
 
@@ -34,8 +31,8 @@ fn put_addition(file: &mut [u8; MOST_BYTES], i: usize)
     }
 }
 
-// The file of that plate, byte by byte.
-fn largest_file() -> [u8; MOST_BYTES] {
+/// The file of that plate, byte by byte.
+pub fn largest_file() -> [u8; MOST_BYTES] {
     let mut file = [0; MOST_BYTES];
     file[0] = 1;
     file[1] = 4;
@@ -62,16 +59,6 @@ fn saved(bytes: &[u8], buffer: &mut [u8]) -> Verdict {
     }
 }
 
-// Adopts a file and looks for a plan of its list.
-fn planned(bytes: &[u8]) -> Verdict {
-    let mut sketch = Sketch::new();
-    if let Err(fault) = sketch.adopt(bytes) {
-        return Verdict::Refused(fault.refusal());
-    }
-    let mut table = [Entry::Leaf { place: 0 }; MOST_ENTRIES];
-    merged(sketch.kinds(), sketch.dimensions(), &mut table)
-}
-
 /// Works the largest plate, and buffers of several lengths.
 pub fn work(rt: &HostRuntime, score: &mut Score) -> io::Result<()> {
     let file = largest_file();
@@ -80,12 +67,6 @@ pub fn work(rt: &HostRuntime, score: &mut Score) -> io::Result<()> {
         "64 elements",
         Verdict::Adopted(64, 125, 187),
         adopted(&file),
-    )?;
-    score.compare(
-        rt,
-        "a plan of its list",
-        Verdict::Planned(187),
-        planned(&file),
     )?;
     let mut again = [0; MOST_BYTES];
     score.compare(

@@ -5,6 +5,7 @@
 mod files;
 mod largest;
 mod lists;
+#[cfg(test)]
 mod merges;
 mod plans;
 mod score;
@@ -12,10 +13,7 @@ mod score;
 use anyhow::anyhow;
 use file::limits::MOST_BYTES;
 use files::BRACED_SQUARE;
-use graph::limits::MOST_ENTRIES;
 use plan::check::check;
-use plan::merge::merge;
-use plans::leaf;
 use score::Score;
 use sketch::faults::SketchFault;
 use sketch::report::{LONGEST_LINE, report};
@@ -61,17 +59,7 @@ fn tell(rt: &HostRuntime, outcome: Outcome) -> io::Result<()> {
     rt.stdout().write_all(&line[0..length])
 }
 
-// Looks for a plan of a sketch's list.
-fn plan_anew(rt: &HostRuntime, sketch: &Sketch) -> anyhow::Result<()> {
-    let mut table = [leaf(0); MOST_ENTRIES];
-    let Ok(entries) = merge(sketch.kinds(), sketch.dimensions(), &mut table) else {
-        return Err(anyhow!("no plan was found"));
-    };
-    println!(rt; "Merging its list gave a plan of {entries} entries.")?;
-    Ok(())
-}
-
-// Makes a sketch, saves it, adopts the file into another, checks that one, plans its list anew and reports.
+// Makes a sketch, saves it, adopts the file into another, checks that one and reports.
 fn from_sketch_to_line(rt: &HostRuntime) -> anyhow::Result<()> {
     let first = make(rt)?;
     let mut second = Sketch::new();
@@ -80,7 +68,6 @@ fn from_sketch_to_line(rt: &HostRuntime) -> anyhow::Result<()> {
         return Err(anyhow!("the adopted plan was refused"));
     };
     println!(rt; "Its plan was checked: {steps} steps.")?;
-    plan_anew(rt, &second)?;
     tell(rt, outcome)?;
     Ok(())
 }
@@ -94,8 +81,6 @@ fn main(rt: HostRuntime) -> anyhow::Result<()> {
     lists::work(&rt, &mut score)?;
     println!(rt; "Plans, layer 3:")?;
     plans::work(&rt, &mut score)?;
-    println!(rt; "Plans that are looked for:")?;
-    merges::work(&rt, &mut score)?;
     println!(rt; "The largest plate, and buffers:")?;
     largest::work(&rt, &mut score)?;
     println!(rt; "{score}")?;

@@ -1,28 +1,46 @@
 //! Plans that are looked for: lists that have one, and lists that have none.
+use crate::files::BRACED_SQUARE;
+use crate::largest::largest_file;
 use crate::lists::plain;
 use crate::plans::{braced_square, leaf, step};
-use crate::score::{Score, Verdict, refused};
 use graph::dimension::Dimension;
 use graph::limits::MOST_ENTRIES;
+use graph::refusal::Refusal;
 use plan::entry::Entry;
 use plan::merge::merge;
-use std::io;
+use sketch::sketch::Sketch;
 
 const ONE_PLACE_SHORT: usize = 186;
 
-/// What merge answers to a list and a table.
-pub fn merged(kinds: &[u8], dimensions: &[Dimension], table: &mut [Entry]) -> Verdict {
-    match merge(kinds, dimensions, table) {
-        Ok(entries) => Verdict::Planned(entries),
-        Err(fault) => Verdict::Refused(fault.refusal()),
-    }
+// What merge answers to a list and a table, a fault in numbers.
+fn merged(kinds: &[u8], dimensions: &[Dimension], table: &mut [Entry]) -> Result<usize, Refusal> {
+    merge(kinds, dimensions, table).map_err(|fault| fault.refusal())
 }
 
-// A list that has a plan, and what stands in the table then.
-fn work_square(rt: &HostRuntime, score: &mut Score) -> io::Result<()> {
+// The refusal of a layer by a number at a place.
+fn refused(layer: u8, number: u8, place: usize) -> Result<usize, Refusal> {
+    Err(Refusal {
+        layer,
+        number,
+        place,
+    })
+}
+
+// What merge answers to the list of a file.
+fn planned(file: &[u8]) -> Result<usize, Refusal> {
+    let mut sketch = Sketch::new();
+    if let Err(fault) = sketch.adopt(file) {
+        return Err(fault.refusal());
+    }
+    let mut table = [leaf(0); MOST_ENTRIES];
+    merged(sketch.kinds(), sketch.dimensions(), &mut table)
+}
+
+#[test]
+fn a_list_that_has_a_plan(rt: HostRuntime) {
     let mut table = [leaf(9); MOST_ENTRIES];
     let square = merged(&[0, 0, 0, 0], &braced_square(), &mut table);
-    score.compare(rt, "a braced square", Verdict::Planned(7), square)?;
+    assert_eq!(rt; square, Ok(7));
     let entries = [
         leaf(0),
         leaf(1),
@@ -34,47 +52,31 @@ fn work_square(rt: &HostRuntime, score: &mut Score) -> io::Result<()> {
         leaf(9),
     ];
     for (entry, wanted) in table.iter().zip(entries.iter()) {
-        score.compare(
-            rt,
-            "its entries, and the place behind",
-            Verdict::Stands(*wanted),
-            Verdict::Stands(*entry),
-        )?;
+        assert_eq!(rt; *entry, *wanted);
     }
-    Ok(())
 }
 
-// Tables that are too short or just long enough.
-fn work_tables(rt: &HostRuntime, score: &mut Score) -> io::Result<()> {
+#[test]
+fn the_lists_of_files(rt: HostRuntime) {
+    assert_eq!(rt; planned(&BRACED_SQUARE), Ok(7));
+    assert_eq!(rt; planned(&largest_file()), Ok(187));
+}
+
+#[test]
+fn tables_short_and_long(rt: HostRuntime) {
     let two = [0, 0];
     let one = [plain(0, 1)];
     let mut short = [leaf(9); ONE_PLACE_SHORT];
-    score.compare(
-        rt,
-        "186 places",
-        refused(3, 18, 186),
-        merged(&two, &one, &mut short),
-    )?;
-    score.compare(
-        rt,
-        "1-1 and 186 places",
-        refused(2, 10, 0),
-        merged(&two, &[plain(1, 1)], &mut short),
-    )?;
+    assert_eq!(rt; merged(&two, &one, &mut short), refused(3, 18, 186));
+    assert_eq!(rt; merged(&two, &[plain(1, 1)], &mut short), refused(2, 10, 0));
     let mut table = [leaf(9); MOST_ENTRIES];
-    score.compare(
-        rt,
-        "187 places",
-        Verdict::Planned(1),
-        merged(&two, &one, &mut table),
-    )
+    assert_eq!(rt; merged(&two, &one, &mut table), Ok(1));
 }
 
-// Lists that have no plan.
-fn work_planless(rt: &HostRuntime, score: &mut Score) -> io::Result<()> {
+#[test]
+fn lists_that_have_no_plan(rt: HostRuntime) {
     let mut table = [leaf(9); MOST_ENTRIES];
-    let nothing = merged(&[0, 0], &[], &mut table);
-    score.compare(rt, "no dimension at all", refused(3, 19, 0), nothing)?;
+    assert_eq!(rt; merged(&[0, 0], &[], &mut table), refused(3, 19, 0));
     let crowded = [
         plain(0, 1),
         plain(0, 2),
@@ -84,12 +86,7 @@ fn work_planless(rt: &HostRuntime, score: &mut Score) -> io::Result<()> {
         plain(2, 3),
         plain(3, 4),
     ];
-    score.compare(
-        rt,
-        "all pairs of 0 to 3, and 3-4",
-        refused(3, 19, 0),
-        merged(&[0; 5], &crowded, &mut table),
-    )?;
+    assert_eq!(rt; merged(&[0; 5], &crowded, &mut table), refused(3, 19, 0));
     let prism = [
         plain(0, 1),
         plain(0, 2),
@@ -101,23 +98,6 @@ fn work_planless(rt: &HostRuntime, score: &mut Score) -> io::Result<()> {
         plain(3, 5),
         plain(4, 5),
     ];
-    score.compare(
-        rt,
-        "two triangles joined by three",
-        refused(3, 19, 0),
-        merged(&[0; 6], &prism, &mut table),
-    )?;
-    score.compare(
-        rt,
-        "the table as it was",
-        Verdict::Stands(leaf(9)),
-        Verdict::Stands(table[0]),
-    )
-}
-
-/// Works the examples of plans that are looked for.
-pub fn work(rt: &HostRuntime, score: &mut Score) -> io::Result<()> {
-    work_square(rt, score)?;
-    work_tables(rt, score)?;
-    work_planless(rt, score)
+    assert_eq!(rt; merged(&[0; 6], &prism, &mut table), refused(3, 19, 0));
+    assert_eq!(rt; table[0], leaf(9));
 }

@@ -1,6 +1,5 @@
 //! What came out, held beside what was wanted.
 use graph::refusal::Refusal;
-use plan::entry::Entry;
 use std::{fmt, io};
 
 /// What a call came to.
@@ -8,10 +7,6 @@ use std::{fmt, io};
 pub enum Verdict {
     /// A plan was accepted: how many steps it has.
     Steps(usize),
-    /// A plan was found: how many entries it has.
-    Planned(usize),
-    /// What stands in a table of entries.
-    Stands(Entry),
     /// A file was adopted: elements, dimensions and entries.
     Adopted(usize, usize, usize),
     /// Bytes were written: how many.
@@ -24,15 +19,6 @@ impl fmt::Display for Verdict {
     fn fmt<W: fmt::Write>(&self, f: &mut fmt::Formatter<W>) -> fmt::Result {
         match *self {
             Verdict::Steps(steps) => write!(f, "accepted, steps {steps}"),
-            Verdict::Planned(entries) => write!(f, "planned, entries {entries}"),
-            Verdict::Stands(Entry::Leaf { place }) => write!(f, "leaf {place}"),
-            Verdict::Stands(
-                Entry::Step {
-                    first,
-                    second,
-                    third,
-                },
-            ) => write!(f, "step {first} {second} {third}"),
             Verdict::Adopted(elements, dimensions, entries) => {
                 write!(f, "yes {elements} {dimensions} {entries}")
             }

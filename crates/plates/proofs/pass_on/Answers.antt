@@ -5,8 +5,8 @@ use Rattle.sketch.specs.Sketches.{sketch_file}
 use Rattle.sketch.proofs.Fitting.{put_fits}
 use Rattle.plates.proofs.pass_on.Goals as goal
 
-pub slice-bounds-adopt-end : goal.slice-bounds-adopt-end
-slice-bounds-adopt-end c =
+pub slice_bounds-adopt-end : goal.slice_bounds-adopt-end
+slice_bounds-adopt-end c =
     let answer = sym (ap (told sketch_refusal) c.unwrap-length.ensures) ∙ c.save.ensures.answer in
     let within : c.unwrap-length.result ≤ 1193 = put_fits (sketch_file c.args.from.now) (replicate 1193 0) c.unwrap-length.result answer in
     omega arith
