@@ -1,13 +1,9 @@
--- The lowest number that passes a test, and a loop that tries one number after another.
-use Rattle.std.proofs.Common.{◌≡◌, ℕ, zero, suc, ◌+◌, ◌<◌, Bool, true, false, cond, Some, None, Option, sym, refl, ap, subst, ⊎_elim, add-one, arith}
+-- The lowest number that passes a test.
+use Rattle.std.proofs.Common.{◌≡◌, ℕ, zero, suc, ◌<◌, Bool, true, false, cond, Some, None, Option, sym, refl, ap, subst, ⊎_elim, arith}
 use Rattle.std.proofs.lemmas.Bool.{cases_lt, both_ways}
 use Rattle.decomposition.specs.Lowest.{or_else, lowest, present, Clear}
 
--- a turn that passes on
-pub lowest_more : (n : ℕ) (test : ℕ → Bool) → lowest n test ≡ None → test n ≡ false → lowest (n + 1) test ≡ None
-lowest_more n test e f = rw (add-one, e, f)
-
--- a turn that returns: no lower number passes, and this one does
+-- no lower number passes, and this one does
 pub lowest_found : (n p : ℕ) (test : ℕ → Bool) → lowest p test ≡ None → test p ≡ true → p < n → Some p ≡ lowest n test
 lowest_found zero p test e t h = absurd (omega arith)
 lowest_found (suc n) p test e t h =
@@ -53,3 +49,13 @@ absent_clear n test h = absent n test (lowest n test) (lowest_says n test) h
 
 pub clear_absent : (n : ℕ) (test : ℕ → Bool) → Clear n test → present (lowest n test) ≡ false
 clear_absent n test h = ap present (lowest_none n test h)
+
+-- an answer that says that it is the lowest
+pub said_lowest : (n : ℕ) (test : ℕ → Bool) (o : Option ℕ) → Says n test o → o ≡ lowest n test
+said_lowest n test (Some p) s = lowest_found n p test (lowest_none p test s.2) s.1 s.0
+said_lowest n test None s = sym (lowest_none n test s)
+
+-- two tests that agree below n
+pub lowest_agree : (n : ℕ) (t u : ℕ → Bool) → ((k : ℕ) → k < n → t k ≡ u k) → lowest n t ≡ lowest n u
+lowest_agree zero t u h = refl
+lowest_agree (suc n) t u h = rw (lowest_agree n t u (λ k l. h k (omega arith)), h n (omega arith))

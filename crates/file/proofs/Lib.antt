@@ -4,7 +4,9 @@ pub mod Values
 pub mod ReadBack
 -- what is read was written so
 pub mod WrittenSo
--- contents at the front of arrays
+-- entries in pieces of four bytes
+pub mod Pieces
+-- contents as tables
 pub mod Storing
 -- the pieces of a file, one after another
 pub mod Filling

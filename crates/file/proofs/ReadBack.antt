@@ -12,7 +12,8 @@ use Rattle.file.specs.Contents.{Contents, holding, Within}
 use Rattle.file.specs.Files.{dimension_bytes, entry_bytes, write, byte, get_dimension, get_entry, get_all}
 use Rattle.file.specs.Files.{dimensions_at, entries_at, end_at, bad_entry, wrong_count, file_rows, held}
 use Rattle.file.specs.FileLaws.{ReadBack}
-use Rattle.file.proofs.Values.{length_joined, get_put, get_put_entry, drop_entry, length_entry, good_entries}
+use Rattle.file.specs.StoredTypes.{dimension_laws, entry_laws}
+use Rattle.file.proofs.Values.{length_joined, get_put, good_entries}
 
 drop_past : (l r : List ℕ) (x p : ℕ) → length l ≡ p → drop (p + 1) (l ++ x ∷ r) ≡ r
 drop_past l r x p e = sym (drop-drop 1 p (l ++ x ∷ r)) ∙ ap (drop 1) (drop_at l (x ∷ r) p e)
@@ -44,7 +45,7 @@ module _ (c : Contents) where
   head3 = head2 ++ (length ds ∷ D)
 
   lengths : (length D ≡ 3 * length ds) × (length E ≡ 4 * length es)
-  lengths = (length_joined dimension_bytes 3 (λ _. refl) ds, length_joined entry_bytes 4 length_entry es)
+  lengths = (length_joined dimension_laws ds, length_joined entry_laws es)
 
   len2 : length head2 ≡ dimensions_at bs
   len2 = omega arith
@@ -74,9 +75,9 @@ module _ (c : Contents) where
   held_back =
       let k : (held bs).kinds ≡ ks = take_at ks (length ds ∷ (D ++ (length es ∷ E))) (length ks) refl in
       let d : (held bs).dimensions ≡ ds =
-      (λ i. get_all get_dimension 3 (at2 i) (drop2 i)) ∙ get_put dimension_bytes get_dimension 3 (λ _ _. refl) (λ _ _. refl) ds (length es ∷ E) in
+      (λ i. get_all get_dimension 3 (at2 i) (drop2 i)) ∙ get_put dimension_laws ds (length es ∷ E) in
       let e : (held bs).plan ≡ es =
-      (λ i. get_all get_entry 4 (at3 i) ((drop3 ∙ sym (append-nil E)) i)) ∙ get_put entry_bytes get_entry 4 get_put_entry drop_entry es [] in
+      (λ i. get_all get_entry 4 (at3 i) ((drop3 ∙ sym (append-nil E)) i)) ∙ get_put entry_laws es [] in
       λ i. holding (k i) (d i) (e i)
 
   counts_clear : Within c → (k : ℕ) → k < 3 → wrong_count bs k ≡ false

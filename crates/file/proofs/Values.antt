@@ -1,11 +1,14 @@
 -- Tables of values of w bytes each: what is written is read back, and what is read was written.
-use Rattle.std.proofs.Common.{◌≡◌, ℕ, zero, suc, ◌+◌, ◌*◌, ◌<◌, ◌≤◌, false, ltb, List, [], ◌∷◌, ◌++◌, length, take, drop, sym, refl, ap, subst, append_assoc, mul-zero, mul-suc, arith, length-append, length-drop, take-add}
+use Rattle.std.proofs.Common.{◌≡◌, ℕ, zero, suc, ◌+◌, ◌*◌, ◌<◌, ◌≤◌, false, ltb, List, [], ◌∷◌, ◌++◌, length, get_or, take, drop, sym, refl, ap, ◌∙◌, subst, append_assoc, mul-zero, mul-suc, arith, length-append, length-drop, take-add, take-take}
 use Rattle.std.specs.List.{flat_map}
-use Rattle.std.proofs.lemmas.List.{drop-drop}
+use Rattle.std.proofs.Math.Nat.{lt_of_mul-lt-mul_left, le_of_mul-le-mul_left}
+use Rattle.std.proofs.lemmas.List.{drop-drop, drop-take, take_at, drop_at, length_push, length-take-le}
 use Rattle.std.proofs.lemmas.Bool.{eqb-true, not-false, ltb-false, or_parts, and_parts}
 use Rattle.plan.specs.declared.entry.Entry.{Entry}
 use Rattle.plan.specs.declared.entry.Entry.TheVariants.{Leaf, Step}
 use Rattle.file.specs.Files.{dimension_bytes, entry_bytes, get_dimension, get_entry, get_all, bad_entry}
+use Rattle.file.specs.Stored.{StoredLaws, kind_bytes, get_kind}
+use Rattle.file.specs.StoredTypes.{entry_laws}
 
 -- how many values are read, and how many bytes are written
 
@@ -13,18 +16,87 @@ pub length_get_all : {X : Type 0} (get : List ℕ → X) (w n : ℕ) (bs : List 
 length_get_all get w zero bs = refl
 length_get_all get w (suc n) bs = ap suc (length_get_all get w n (drop w bs))
 
-pub length_joined : {X : Type 0} (put : X → List ℕ) (w : ℕ) → ((x : X) → length (put x) ≡ w)
-    → (xs : List X) → length (flat_map put xs) ≡ w * length xs
-length_joined put w len [] = sym (mul-zero w)
-length_joined put w len (x ∷ xs) = rw (length-append, mul-suc) (omega (arith, len x, length_joined put w len xs))
+-- each of the values that are read
+pub get_all_at : {X : Type 0} (get : List ℕ → X) (w n : ℕ) (bs : List ℕ) (i : ℕ) (d : X) → i < n → get_or (get_all get w n bs) i d ≡ get (drop (w * i) bs)
+get_all_at get w zero bs i d h = absurd (omega arith)
+get_all_at get w (suc n) bs zero d h = rw mul-zero
+get_all_at get w (suc n) bs (suc i) d h =
+    let s : w * suc i ≡ w + w * i = omega (arith, mul-suc w i) in
+    get_all_at get w n (drop w bs) i d (omega arith) ∙ ap get (drop-drop (w * i) w bs ∙ ap (λ k. drop k bs) (sym s))
+
+-- how many values there are
+
+pub room_left : (w n len left all : ℕ) → 0 < w → w * len + left ≡ all → all ≤ w * n → w ≤ left → len < n
+room_left w n len left all p e h l = lt_of_mul-lt-mul_left w (omega arith)
+
+pub same_count : (w a b left : ℕ) → left < w → w * a + left ≡ w * b → a ≡ b
+same_count w a b left l e =
+    let m = mul-suc w a in
+    let low : a ≤ b = le_of_mul-le-mul_left {k = w} (omega arith) (omega arith) in
+    let high : b < suc a = lt_of_mul-lt-mul_left w (omega arith) in
+    omega arith
+
+-- how many bytes are left behind a value more
+pub left_more : {X : Type 0} (w : ℕ) (left piece rest : List ℕ) (xs ys : List X) (x : X)
+    → left ≡ piece ++ rest → length piece ≡ w → ys ≡ xs ++ x ∷ [] → w * length ys + length rest ≡ w * length xs + length left
+left_more w left piece rest xs ys x parts len is =
+    let n : length ys ≡ suc (length xs) = omega (arith, ap length is, length_push xs x) in
+    omega (arith, ap (λ k. w * k) n, mul-suc w (length xs), ap length parts, length-append piece rest)
+
+-- kinds are their bytes
+pub kinds_read : (n : ℕ) (bs : List ℕ) → n ≤ length bs → get_all get_kind 1 n bs ≡ take n bs
+kinds_read zero bs h = refl
+kinds_read (suc n) [] h = absurd (omega arith)
+kinds_read (suc n) (b ∷ bs) h = ap (λ l. b ∷ l) (kinds_read n bs (omega arith))
+
+pub kinds_joined : (ks : List ℕ) → flat_map kind_bytes ks ≡ ks
+kinds_joined [] = refl
+kinds_joined (k ∷ ks) = ap (λ l. k ∷ l) (kinds_joined ks)
+
+module _ {X : Type 0} {w : ℕ} {put : X → List ℕ} {get : List ℕ → X} (laws : StoredLaws w put get) where
+  -- how many bytes are written
+  pub length_joined : (xs : List X) → length (flat_map put xs) ≡ w * length xs
+  length_joined [] = sym (mul-zero w)
+  length_joined (x ∷ xs) = rw (length-append, mul-suc) (omega (arith, laws.long x, length_joined xs))
+
+  -- what is written is read back
+  pub get_put : (xs : List X) (r : List ℕ) → get_all get w (length xs) (flat_map put xs ++ r) ≡ xs
+  get_put [] r = refl
+  get_put (x ∷ xs) r =
+      let more = flat_map put xs ++ r in
+      let one : get (put x ++ more) ≡ x = sym (laws.front (put x ++ more)) ∙ ap get (take_at (put x) more w (laws.long x)) ∙ laws.back x in
+      rw (append_assoc, one, drop_at (put x) more w (laws.long x), get_put xs r)
+
+  -- a value more is read, from a piece in front of those that are left
+  pub read_more : (all left piece rest : List ℕ) (xs ys : List X) (x : X)
+      → ((k : ℕ) → get_all get w (length xs + k) all ≡ xs ++ get_all get w k left)
+      → left ≡ piece ++ rest → length piece ≡ w → x ≡ get piece → ys ≡ xs ++ x ∷ []
+      → (k : ℕ) → get_all get w (length ys + k) all ≡ ys ++ get_all get w k rest
+  read_more all left piece rest xs ys x so_far parts len got is k =
+      let n : length ys + k ≡ length xs + suc k = omega (arith, ap length is, length_push xs x) in
+      let first : get left ≡ x = ap get parts ∙ sym (laws.front (piece ++ rest)) ∙ ap get (take_at piece rest w len) ∙ sym got in
+      let later : drop w left ≡ rest = ap (drop w) parts ∙ drop_at piece rest w len in
+      ap (λ m. get_all get w m all) n ∙ so_far (suc k) ∙ (λ i. xs ++ (first i ∷ get_all get w k (later i)))
+      ∙ sym (append_assoc xs (x ∷ []) (get_all get w k rest)) ∙ ap (λ l. l ++ get_all get w k rest) (sym is)
+
+  -- only the bytes of the values are read
+  get_all_front : (n : ℕ) (bs : List ℕ) → get_all get w n (take (w * n) bs) ≡ get_all get w n bs
+  get_all_front zero bs = refl
+  get_all_front (suc n) bs =
+      let s : w * suc n ≡ w + w * n = omega (arith, mul-suc w n) in
+      let first : get (take (w + w * n) bs) ≡ get bs =
+      sym (laws.front (take (w + w * n) bs)) ∙ ap get (take-take w (w + w * n) bs (omega arith)) ∙ laws.front bs in
+      rw (s, first, drop-take, get_all_front n (drop w bs))
+
+  -- a table is read from its bytes, m of them
+  pub table_read : (bs : List ℕ) (p n m : ℕ) (xs : List X)
+      → ((k : ℕ) → length (take m (drop p bs)) ≡ w * k → xs ≡ get_all get w k (take m (drop p bs)))
+      → m ≡ w * n → p + m ≤ length bs → xs ≡ get_all get w n (drop p bs)
+  table_read bs p n m xs said e h =
+      said n (length-take-le m (drop p bs) (rw length-drop (omega arith)) ∙ e)
+      ∙ ap (λ j. get_all get w n (take j (drop p bs))) e ∙ get_all_front n (drop p bs)
 
 module _ {X : Type 0} (put : X → List ℕ) (get : List ℕ → X) (w : ℕ) where
-  -- what is written is read back
-  pub get_put : ((x : X) (r : List ℕ) → get (put x ++ r) ≡ x) → ((x : X) (r : List ℕ) → drop w (put x ++ r) ≡ r)
-      → (xs : List X) (r : List ℕ) → get_all get w (length xs) (flat_map put xs ++ r) ≡ xs
-  get_put one off [] r = refl
-  get_put one off (x ∷ xs) r = rw (append_assoc, one x, off x, get_put one off xs r)
-
   -- what is read was written, where each value passes
   pub put_get : (ok : List ℕ → Type 0) → ((bs : List ℕ) → w ≤ length bs → ok bs → put (get bs) ≡ take w bs)
       → (n : ℕ) (bs : List ℕ) → w * n ≤ length bs → ((i : ℕ) → i < n → ok (drop (w * i) bs))
@@ -49,18 +121,6 @@ put_get_dimension (a ∷ b ∷ c ∷ bs) h k = refl
 
 -- one entry
 
-pub get_put_entry : (x : Entry) (r : List ℕ) → get_entry (entry_bytes x ++ r) ≡ x
-get_put_entry (Leaf d) r = refl
-get_put_entry (Step a b c) r = refl
-
-pub drop_entry : (x : Entry) (r : List ℕ) → drop 4 (entry_bytes x ++ r) ≡ r
-drop_entry (Leaf d) r = refl
-drop_entry (Step a b c) r = refl
-
-pub length_entry : (x : Entry) → length (entry_bytes x) ≡ 4
-length_entry (Leaf d) = refl
-length_entry (Step a b c) = refl
-
 pub put_get_entry : (bs : List ℕ) → 4 ≤ length bs → bad_entry bs ≡ false → entry_bytes (get_entry bs) ≡ take 4 bs
 put_get_entry [] h k = absurd (omega arith)
 put_get_entry (a ∷ []) h k = absurd (omega arith)
@@ -83,4 +143,4 @@ good_entries (Leaf d ∷ es) zero h = refl
 good_entries (Step a b c ∷ es) zero h = refl
 good_entries (e ∷ es) (suc i) h =
     let s : 4 * suc i ≡ 4 + 4 * i = omega arith in
-    rw (s, sym (drop-drop (4 * i) 4 (flat_map entry_bytes (e ∷ es))), drop_entry e (flat_map entry_bytes es)) (good_entries es i (omega arith))
+    rw (s, sym (drop-drop (4 * i) 4 (flat_map entry_bytes (e ∷ es))), drop_at (entry_bytes e) (flat_map entry_bytes es) 4 (entry_laws.long e)) (good_entries es i (omega arith))

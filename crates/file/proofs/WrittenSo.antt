@@ -43,7 +43,7 @@ module _ (bs : List ℕ) (free : first_refusal (file_rows bs) ≡ None) where
   counted : byte bs 1 * byte_values + byte bs 2 ≡ length bs - 3
   counted = eqb-true _ _ (not-false _ (clear.1.1.0 0 (omega arith)))
 
-  ends : end_at bs ≡ length bs
+  pub ends : end_at bs ≡ length bs
   ends = eqb-true _ _ (not-false _ (clear.1.1.1.1.0 0 (omega arith)))
 
   -- a count that the file has is within its range

@@ -63,11 +63,15 @@ abbrev pub get_all : {X : Type 0} → (List ℕ → X) → ℕ → ℕ → List 
 get_all get w zero bs = []
 get_all get w (suc n) bs = get bs ∷ get_all get w n (drop w bs)
 
+-- below the fewest or above the most
+abbrev pub out_of : ℕ → ℕ → ℕ → Bool
+out_of fewest most n = nat_lt n fewest || nat_lt most n
+
 -- a count that is out of its range; the counts are numbered 0 for kinds, 1 for dimensions, 2 for entries
 abbrev pub bad_count : ℕ → ℕ → Bool
-bad_count zero n = nat_lt n fewest_kinds || nat_lt most_kinds n
+bad_count zero n = out_of fewest_kinds most_kinds n
 bad_count (suc zero) n = nat_lt most_file_dimensions n
-bad_count (suc (suc k)) n = nat_lt n fewest_file_entries || nat_lt most_file_entries n
+bad_count (suc (suc k)) n = out_of fewest_file_entries most_file_entries n
 
 -- an unknown tag, or a leaf whose spare bytes are not 0
 abbrev pub bad_bytes : ℕ → ℕ → ℕ → Bool
@@ -107,6 +111,10 @@ module _ (bs : List ℕ) where
   -- 4: a count that the file has is out of its range
   abbrev pub wrong_count : ℕ → Bool
   wrong_count k = nat_lt (count_at k) (length bs) && bad_count k (byte bs (count_at k))
+
+  -- 4 for the count at one place, by its range
+  abbrev pub count_row : ℕ → ℕ → ℕ → Row
+  count_row p fewest most = one_row 4 (nat_lt p (length bs) && out_of fewest most (byte bs p)) p
 
   -- 6: bytes that are no entry
   abbrev pub wrong_entry : ℕ → Bool

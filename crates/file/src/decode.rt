@@ -6,8 +6,7 @@ ghost use Rattle.file.specs.Files.{read, write, stored_answer};
 ghost use Rattle.file.specs.FileFaults.{file_refusal};
 
 use crate::faults::FileFault;
-use crate::judge::judge_file;
-use crate::reading::read_tables;
+use crate::layout::Layout;
 use crate::tables::Tables;
 
 /// Reads a file: the list and the plan that it holds, or the first row of layer 1 that refuses it.
@@ -16,6 +15,7 @@ pub fn decode(bytes: &[u8]) -> Result<Tables, FileFault>
     ensures within { IfOk result (λ t. Within (contents t)) }
     ensures inverse { IfOk result (λ t. write (contents t) ≡ bytes.now) }
 {
-    judge_file(bytes)?;
-    Ok(read_tables(bytes))
+    let layout = Layout::of(bytes);
+    layout.judge()?;
+    Ok(layout.tables())
 }

@@ -5,7 +5,7 @@ ghost use Rattle.file.specs.FileFaults.{file_refusal};
 use graph::refusal::Refusal;
 
 /// What is wrong with a file.
-#[derive(Clone, Copy)]
+#[derive(Clone, Copy, PartialEq, Eq, Debug)]
 pub enum FileFault {
     /// Too few bytes for a version and a length.
     TooShort { bytes: usize },
@@ -21,12 +21,11 @@ pub enum FileFault {
     WrongEntry { byte: usize },
 }
 
-impl FileFault {
-    /// The fault in numbers.
-    pub fn refusal(self) -> Refusal
-        ensures { result ≡ file_refusal self }
-    {
-        let (number, place) = match self {
+impl From<FileFault> for Refusal {
+    ghost from_gives = { λ fault told. told ≡ file_refusal fault };
+
+    fn from(fault: FileFault) -> Refusal {
+        let (number, place) = match fault {
             FileFault::TooShort { bytes } => (1, bytes),
             FileFault::UnknownVersion => (2, 0),
             FileFault::WrongLength => (3, 1),

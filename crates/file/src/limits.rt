@@ -1,4 +1,4 @@
-//! How large the tables in a file may be. Each limit stands here and, for the promises, in specs/FileLimits.antt.
+//! How large the tables in a file may be.
 
 /// The first byte of every file.
 pub const VERSION: u8 = 1;

@@ -2,8 +2,8 @@
 pub mod Bits
 -- what two sets, and three, have in common
 pub mod Sharing
--- a loop that counts
-pub mod Counting
+-- what the searches of the library find
+pub mod Found
 -- answers with their faults in numbers
 pub mod Told
 -- ReadingLaw

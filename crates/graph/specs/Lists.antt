@@ -1,10 +1,13 @@
 -- Lists: a kind for each element, and a table of dimensions. Which lists are lawful, and the rows of layer 2.
-use Rattle.std.specs.Prelude.{ℕ, zero, suc, ◌<◌, ◌≤◌, Bool, ◌&&◌, ◌||◌, List, [], ◌∷◌, length, ◌==◌, nat_le, nat_lt, slice_index, slice_index_or}
+use Rattle.std.specs.Prelude.{◌≡◌, Result, MatchResult, ℕ, zero, suc, ◌<◌, ◌≤◌, Bool, ◌&&◌, ◌||◌, List, [], ◌∷◌, length, ◌==◌, nat_le, nat_lt, slice_index, slice_index_or}
 use Rattle.decomposition.specs.Graphs.{Graph, graph_of}
 use Rattle.decomposition.specs.Lists.{Proper}
 use Rattle.graph.specs.Limits.{fewest_elements, most_elements, most_dimensions}
 use Rattle.graph.specs.Rows.{lowest, present, Row, row}
 use Rattle.graph.specs.declared.dimension.Dimension.{Dimension}
+use Rattle.graph.specs.declared.kind.Kind.{Kind}
+use Rattle.graph.specs.declared.kind.Kind.TheVariants.{Point, Line}
+use Rattle.graph.specs.declared.kind.UnknownKind.{UnknownKind}
 
 -- a dimension by its lower element, its higher element and its grade
 abbrev pub dimension : ℕ → ℕ → ℕ → Dimension
@@ -40,6 +43,15 @@ pub record Lawful (ks : List ℕ) (ds : List Dimension) : Type 0 where
 abbrev pub wrong_count : List ℕ → List Dimension → ℕ → Bool
 wrong_count ks ds zero = nat_lt (length ks) fewest_elements || nat_lt most_elements (length ks)
 wrong_count ks ds (suc p) = nat_lt most_dimensions (length ds)
+
+-- the byte of a kind
+abbrev pub byte_of : Kind → ℕ
+byte_of Point = 0
+byte_of Line = 1
+
+-- the answer is the kind of this byte, or says that the byte is no kind
+abbrev pub IsKind : ℕ → Result Kind UnknownKind → Type 0
+IsKind b r = MatchResult r (λ k. byte_of k ≡ b) (λ e. (e.0 ≡ b) × (1 < b))
 
 -- 8: a kind that is not 0 or 1
 abbrev pub unknown_kind : List ℕ → ℕ → Bool

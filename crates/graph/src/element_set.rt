@@ -10,13 +10,13 @@ use crate::limits::MOST_ELEMENTS;
 type Bits = u64;
 
 /// A set of elements.
-#[derive(Clone, Copy)]
+#[derive(Clone, Copy, PartialEq, Eq, Debug, Default)]
 pub struct ElementSet {
     bits: Bits,
 }
 
-/// What two sets have in common.
-#[derive(Clone, Copy)]
+/// What two sets have in common. There are three cases, so it is neither an `Option` nor a `Result`.
+#[derive(Clone, Copy, PartialEq, Eq, Debug)]
 pub enum Shared {
     Nothing,
     One { element: u8 },
@@ -35,14 +35,14 @@ impl ElementSet {
     pub fn contains(self, element: u8) -> bool
         ensures { result ≡ members self element }
     {
-        (element as usize) < MOST_ELEMENTS && (self.bits >> element) & 1 == 1
+        usize::from(element) < MOST_ELEMENTS && (self.bits >> element) & 1 == 1
     }
 
     /// The set and one element more; a number that no element can have adds nothing.
     pub fn with(self, element: u8) -> ElementSet
         ensures { (j : ℕ) → members result j ≡ (members self j || (nat_lt element most_elements && j == element)) }
     {
-        if element as usize >= MOST_ELEMENTS {
+        if usize::from(element) >= MOST_ELEMENTS {
             return self;
         }
         ElementSet {
@@ -79,9 +79,10 @@ impl ElementSet {
     fn only(self) -> Option<u8>
         ensures { MatchOption result ((k : ℕ) → self.bits ≢ 2 ^ k) (λ k. (k < most_elements) × (self.bits ≡ 2 ^ k)) }
     {
-        let k = self.bits.trailing_zeros();
-        if (k as usize) < MOST_ELEMENTS && self.bits == 1 << k {
-            return Some(k as u8);
+        // There are at most 64 zeros, which fit.
+        let element = self.bits.trailing_zeros() as u8;
+        if usize::from(element) < MOST_ELEMENTS && self.bits == 1 << element {
+            return Some(element);
         }
         None
     }

@@ -5,9 +5,10 @@ ghost use Rattle.graph.specs.ListFaults.{list_refusal};
 use crate::refusal::Refusal;
 
 /// What is wrong with a list.
-#[derive(Clone, Copy)]
+#[derive(Clone, Copy, PartialEq, Eq, Debug)]
 pub enum ListFault {
-    /// Too few or too many kinds (table 0), or too many dimensions (table 1).
+    /// Too few or too many kinds (table 0), or too many dimensions (table 1). The number is the place that the refusal tells, and
+    /// whoever makes a fault may tell any.
     WrongCount { table: usize },
     /// A kind that is neither point nor line.
     UnknownKind { element: usize },
@@ -19,12 +20,11 @@ pub enum ListFault {
     RepeatedPair { dimension: usize },
 }
 
-impl ListFault {
-    /// The fault in numbers.
-    pub fn refusal(self) -> Refusal
-        ensures { result ≡ list_refusal self }
-    {
-        let (number, place) = match self {
+impl From<ListFault> for Refusal {
+    ghost from_gives = { λ fault told. told ≡ list_refusal fault };
+
+    fn from(fault: ListFault) -> Refusal {
+        let (number, place) = match fault {
             ListFault::WrongCount { table } => (7, table),
             ListFault::UnknownKind { element } => (8, element),
             ListFault::UnknownElement { dimension } => (9, dimension),

@@ -4,8 +4,7 @@
 pub mod dimension;
 pub mod element_set;
 pub mod faults;
-pub mod judge;
+pub mod kind;
 pub mod limits;
+pub mod list;
 pub mod refusal;
-mod rows;
-pub mod trial;

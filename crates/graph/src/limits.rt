@@ -1,4 +1,4 @@
-//! How large a plate may be. Each limit stands here and, for the promises, in specs/Limits.antt.
+//! How large a plate may be.
 
 /// A sketch has at least this many elements.
 pub const FEWEST_ELEMENTS: usize = 2;

@@ -1,32 +1,26 @@
--- A plan in the making: one entry more, a leaf or a step, keeps what is said of it.
-use Rattle.std.proofs.Common.{◌≡◌, ℕ, ◌+◌, ◌<◌, ◌≤◌, Bool, true, false, eqb, List, [], ◌∷◌, ◌++◌, length, get_or, take, set, sym, ap, ◌∙◌, subst, inl, inr, add-one, arith}
+-- A plan in the making: what one entry more keeps of what is said of it.
+use Rattle.std.proofs.Common.{◌≡◌, ℕ, ◌+◌, ◌<◌, ◌≤◌, true, eqb, List, [], ◌∷◌, ◌++◌, length, sym, ap, ◌∙◌, subst, inl, inr, add-one, arith}
 use Rattle.std.proofs.lemmas.Bool.{cases_eq}
-use Rattle.std.proofs.lemmas.List.{length-take-le, length-set, length_push, take_more_set, map_push, get_or_append_left, get_or_push, get_or-set_same, get_or-set_other}
+use Rattle.std.proofs.lemmas.List.{length-map, length_push, map_push, get_or_append_left, get_or_push}
 use Rattle.decomposition.specs.Trees.{reach}
 use Rattle.decomposition.specs.Tables.{Node, names, mentions, named_by, unnamed, node, tree_at, last}
 use Rattle.decomposition.specs.Merging.{Underway}
 use Rattle.decomposition.proofs.Sums.{sum_same}
 use Rattle.decomposition.proofs.Underway.{underway_rising, underway_listed, underway_last}
 use Rattle.decomposition.proofs.MergedOnce.{tree_same}
-use Rattle.graph.specs.ElementSets.{members}
 use Rattle.graph.specs.Rows.{Clear}
 use Rattle.graph.specs.Lists.{lower_of, higher_of}
 use Rattle.graph.specs.declared.dimension.Dimension.{Dimension}
 use Rattle.plan.specs.Entries.{node_of, nodes}
-use Rattle.plan.specs.Reach.{reached}
 use Rattle.plan.specs.PlanRows.{misnamed}
-use Rattle.plan.specs.Drafts.{drafted, draft_table, reach_at, Long, NamedRight, Pushed, Told, Drafted}
+use Rattle.plan.specs.Drafts.{drafted, count, draft_table, reach_at, unnamed_at, Told, Drafted}
 use Rattle.plan.specs.declared.entry.Entry.{Entry}
 use Rattle.plan.specs.declared.draft.Draft.{Draft}
 use Rattle.plan.proofs.Naming.{nodes_length, names_clear}
 
-module _ (d : Draft) (long : Long d) where
-  pub drafted_length : d.count ≤ 187 → length (drafted d) ≡ d.count
-  drafted_length room = length-take-le d.count d.entries (omega (arith, long.entries))
-
-  pub drafted_more : (entry : Entry) (k : ℕ) → d.count < 187 → k ≡ d.count + 1 → take k (set d.entries d.count entry) ≡ drafted d ++ entry ∷ []
-  drafted_more entry k room is =
-      ap (λ j. take j (set d.entries d.count entry)) is ∙ take_more_set d.entries d.count entry (omega (arith, long.entries))
+-- a draft's table has a row for each entry
+pub table_length : (d : Draft) → length (draft_table d) ≡ count d
+table_length d = nodes_length (drafted d) ∙ length-map d.parts.items _
 
 -- the names in a table of the merging rule are in order
 pub named_right : (ds : List Dimension) (m : ℕ) (plan : List Entry) → m ≤ length ds → Underway (lower_of ds) (higher_of ds) m (nodes plan)
@@ -36,7 +30,7 @@ named_right ds m plan l u =
     (λ e d k q. omega (arith, underway_listed (lower_of ds) (higher_of ds) m (nodes plan) u e d k q))
     (underway_rising (lower_of ds) (higher_of ds) m (nodes plan) u)
 
--- one entry more, behind which the flags are F
+-- one entry more
 module _ (ds : List Dimension) (m m' : ℕ) (d : Draft) (h : Drafted m ds d) (entry : Entry) where
   abbrev table : List Node
   table = draft_table d
@@ -44,103 +38,65 @@ module _ (ds : List Dimension) (m m' : ℕ) (d : Draft) (h : Drafted m ds d) (en
   abbrev table' : List Node
   table' = table ++ node_of entry ∷ []
 
-  size : length table ≡ d.count
-  size = nodes_length (drafted d) ∙ drafted_length d h.long h.room
+  pub size' : length table' ≡ count d + 1
+  size' = length_push table (node_of entry) ∙ ap (λ k. k + 1) (table_length d)
 
-  size' : length table' ≡ d.count + 1
-  size' = length_push table (node_of entry) ∙ ap (λ k. k + 1) size
+  older : (j : ℕ) → j < count d → node table j ≡ node table' j
+  older j l = sym (get_or_append_left table (node_of entry ∷ []) (names 0) j (omega (arith, table_length d)))
 
-  older : (j : ℕ) → j < d.count → node table j ≡ node table' j
-  older j l = sym (get_or_append_left table (node_of entry ∷ []) (names 0) j (omega (arith, size)))
-
-  newest : node table' d.count ≡ node_of entry
-  newest = get_or_push table (node_of entry) (names 0) d.count size
-
-  nodes_more : nodes (drafted d ++ entry ∷ []) ≡ table'
-  nodes_more = map_push node_of (drafted d) entry
+  pub newest : node table' (count d) ≡ node_of entry
+  newest = get_or_push table (node_of entry) (names 0) (count d) (table_length d)
 
   -- the earlier trees stay
-  tree_stays : (e : ℕ) → e < d.count → tree_at table e ≡ tree_at table' e
+  pub tree_stays : (e : ℕ) → e < count d → tree_at table e ≡ tree_at table' e
   tree_stays =
-      tree_same (node table) (node table') d.count older
-      (λ e a b c l. underway_rising (lower_of ds) (higher_of ds) m table h.told.underway e a b c (omega (arith, size)))
+      tree_same (node table) (node table') (count d) older
+      (λ e a b c l. underway_rising (lower_of ds) (higher_of ds) m table h.underway e a b c (omega (arith, table_length d)))
 
   -- what the new entry names is named
-  pub unnamed_more : (e : ℕ) → unnamed (node table') (d.count + 1) e ≡ eqb (named_by (node table) d.count e + mentions (node_of entry) e) 0
+  pub unnamed_more : (e : ℕ) → unnamed (node table') (count d + 1) e ≡ eqb (named_by (node table) (count d) e + mentions (node_of entry) e) 0
   unnamed_more e =
-      let p : named_by (node table') d.count e ≡ named_by (node table) d.count e =
-      sum_same d.count (λ j. mentions (node table' j) e) (λ j. mentions (node table j) e) (λ j l. ap (λ x. mentions x e) (sym (older j l))) in
-      let q : mentions (node table' d.count) e ≡ mentions (node_of entry) e = ap (λ x. mentions x e) newest in
-      ap (λ k. eqb (named_by (node table') k e) 0) (add-one d.count) ∙ ap (λ x. eqb x 0) (omega arith)
+      let p : named_by (node table') (count d) e ≡ named_by (node table) (count d) e =
+      sum_same (count d) (λ j. mentions (node table' j) e) (λ j. mentions (node table j) e) (λ j l. ap (λ x. mentions x e) (sym (older j l))) in
+      let q : mentions (node table' (count d)) e ≡ mentions (node_of entry) e = ap (λ x. mentions x e) newest in
+      ap (λ k. eqb (named_by (node table') k e) 0) (add-one (count d)) ∙ ap (λ x. eqb x 0) (omega arith)
 
-  pub named_pushed : m' ≤ length ds → Underway (lower_of ds) (higher_of ds) m' table' → NamedRight ds d entry
-  named_pushed l u = named_right ds m' (drafted d ++ entry ∷ []) l (subst (Underway (lower_of ds) (higher_of ds) m') (sym nodes_more) u)
+  module _ (new : Draft) (more : drafted new ≡ drafted d ++ entry ∷ []) (underway : Underway (lower_of ds) (higher_of ds) m' table')
+      (old_reach : (e i : ℕ) → e < count d → reach_at new e i ≡ reach_at d e i)
+      (new_reach : (i : ℕ) → reach_at new (count d) i ≡ reach (lower_of ds) (higher_of ds) (tree_at table' (count d)) i)
+      (old_flags : (e : ℕ) → e < count d → unnamed_at new e ≡ unnamed (node table') (count d + 1) e)
+      (new_flag : unnamed_at new (count d) ≡ true) where
+    now_table : draft_table new ≡ table'
+    now_table = ap nodes more ∙ map_push node_of (drafted d) entry
 
-  module _ (F : List Bool) (new : Draft) (room : d.count < 187) (F-long : length F ≡ 187)
-      (pushed : Pushed ds (record { entries = d.entries; reaches = d.reaches; unnamed = F; count = d.count }) entry new)
-      (underway : Underway (lower_of ds) (higher_of ds) m' table')
-      (flags : (e : ℕ) → e < d.count → get_or F e false ≡ unnamed (node table') (d.count + 1) e) where
-    now_drafted : drafted new ≡ drafted d ++ entry ∷ []
-    now_drafted = ap (take new.count) pushed.entries ∙ drafted_more d h.long entry new.count room pushed.count
+    now_count : count new ≡ count d + 1
+    now_count = sym (table_length new) ∙ ap length now_table ∙ size'
 
     -- nothing names the newest entry
-    top : unnamed (node table') (d.count + 1) d.count ≡ true
+    top : unnamed (node table') (count d + 1) (count d) ≡ true
     top =
-        let is : last table' ≡ d.count = omega (arith, size') in
-        ap (λ k. unnamed (node table') k d.count) (sym size')
+        let is : last table' ≡ count d = omega (arith, size') in
+        ap (λ k. unnamed (node table') k (count d)) (sym size')
         ∙ ap (unnamed (node table') (length table')) (sym is)
         ∙ underway_last (lower_of ds) (higher_of ds) m' table' underway (omega (arith, size'))
 
-    reach_older : (e i : ℕ) → e < d.count → reach_at new e i ≡ reach (lower_of ds) (higher_of ds) (tree_at table' e) i
-    reach_older e i l =
-        ap (λ xs. members (get_or xs e (record { bits = 0 })) i) pushed.reaches
-        ∙ ap (λ s. members s i) (get_or-set_other d.reaches d.count e pushed.reach (record { bits = 0 }) (omega arith))
-        ∙ h.told.reaches e i l
-        ∙ ap (λ t. reach (lower_of ds) (higher_of ds) t i) (tree_stays e l)
-
-    reach_newest : (i : ℕ) → reach_at new d.count i ≡ reach (lower_of ds) (higher_of ds) (tree_at table' d.count) i
-    unfolding reached
-    reach_newest i =
-        ap (λ xs. members (get_or xs d.count (record { bits = 0 })) i) pushed.reaches
-        ∙ ap (λ s. members s i) (get_or-set_same d.reaches d.count pushed.reach (record { bits = 0 }) (omega (arith, h.long.reaches)))
-        ∙ pushed.is i
-        ∙ ap (λ t. reach (lower_of ds) (higher_of ds) (tree_at t d.count) i) (ap nodes now_drafted ∙ nodes_more)
-
-    flag_older : (e : ℕ) → e < d.count → get_or new.unnamed e false ≡ unnamed (node table') (d.count + 1) e
-    flag_older e l =
-        ap (λ xs. get_or xs e false) pushed.unnamed ∙ get_or-set_other F d.count e true false (omega arith) ∙ flags e l
-
-    flag_newest : get_or new.unnamed d.count false ≡ unnamed (node table') (d.count + 1) d.count
-    flag_newest =
-        ap (λ xs. get_or xs d.count false) pushed.unnamed ∙ get_or-set_same F d.count true false (omega arith) ∙ sym top
-
     now_told : Told m' ds table' new
-    now_told =
-        let count = pushed.count in
-        record {
-          underway = underway;
-          reaches = λ e i l.
-              elim (cases_eq e d.count) [
-                | inl p ↦ subst (λ e. reach_at new e i ≡ reach (lower_of ds) (higher_of ds) (tree_at table' e) i) (sym p) (reach_newest i)
-                | inr p ↦ reach_older e i (omega arith)
-              ];
-          flags = λ e l.
-              subst (λ k. get_or new.unnamed e false ≡ unnamed (node table') k e) (sym count)
-              (elim (cases_eq e d.count) [
-                | inl p ↦ subst (λ e. get_or new.unnamed e false ≡ unnamed (node table') (d.count + 1) e) (sym p) flag_newest
-                | inr p ↦ flag_older e (omega arith)
-              ]);
-        }
+    now_told = record {
+      underway = underway;
+      reaches = λ e i l.
+          elim (cases_eq e (count d)) [
+            | inl p ↦ subst (λ e. reach_at new e i ≡ reach (lower_of ds) (higher_of ds) (tree_at table' e) i) (sym p) (new_reach i)
+            | inr p ↦
+                (let k : e < count d = omega (arith, now_count) in
+                old_reach e i k ∙ h.reaches e i k ∙ ap (λ t. reach (lower_of ds) (higher_of ds) t i) (tree_stays e k))
+          ];
+      flags = λ e l.
+          subst (λ k. unnamed_at new e ≡ unnamed (node table') k e) (sym now_count)
+          (elim (cases_eq e (count d)) [
+            | inl p ↦ subst (λ e. unnamed_at new e ≡ unnamed (node table') (count d + 1) e) (sym p) (new_flag ∙ sym top)
+            | inr p ↦ old_flags e (omega (arith, now_count))
+          ]);
+    }
 
     pub draft_push : Drafted m' ds new
-    draft_push =
-        let count = pushed.count in
-        record {
-          long = record {
-            entries = ap length pushed.entries ∙ length-set d.entries d.count entry ∙ h.long.entries;
-            reaches = ap length pushed.reaches ∙ length-set d.reaches d.count pushed.reach ∙ h.long.reaches;
-            unnamed = ap length pushed.unnamed ∙ length-set F d.count true ∙ F-long;
-          };
-          room = omega arith;
-          told = subst (λ t. Told m' ds t new) (sym (ap nodes now_drafted ∙ nodes_more)) now_told;
-        }
+    draft_push = subst (λ t. Told m' ds t new) (sym now_table) now_told

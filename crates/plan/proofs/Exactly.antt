@@ -7,11 +7,11 @@ use Rattle.graph.specs.Lists.{lower_of, higher_of, list_rows, Lawful}
 use Rattle.graph.specs.ListFaults.{list_refusal}
 use Rattle.graph.specs.declared.dimension.Dimension.{Dimension}
 use Rattle.graph.specs.declared.faults.ListFault.{ListFault}
+use Rattle.graph.specs.declared.list.LawfulList.{LawfulList}
 use Rattle.graph.proofs.Reading.{none_clear, clear_none, refusal_append}
 use Rattle.graph.proofs.Told.{told_ok, answered_ok, answered_err}
 use Rattle.graph.proofs.Lawfully.{clear_lawful, lawful_clear}
 use Rattle.plan.specs.Entries.{nodes, steps}
-use Rattle.plan.specs.Reach.{Small}
 use Rattle.plan.specs.PlanRows.{plan_rows}
 use Rattle.plan.specs.PlanFaults.{plan_refusal}
 use Rattle.plan.specs.Check.{
@@ -28,6 +28,7 @@ use Rattle.plan.specs.declared.entry.Entry.{Entry}
 use Rattle.plan.specs.declared.faults.PlanFault.{PlanFault}
 use Rattle.plan.specs.declared.faults.PlanFault.TheVariants as is
 use Rattle.plan.proofs.Rules.{clear_accepted, accepted_clear}
+use Rattle.plan.proofs.Naming.{Small}
 
 pub clear_append : (rs qs : List Row) → AllClear (rs ++ qs) ↔ (AllClear rs × AllClear qs)
 clear_append [] qs = (λ h. (tt, h), λ h. h.1)
@@ -99,12 +100,16 @@ module _ (ks : List ℕ) (ds : List Dimension) where
         ∙ ap (λ o. answered (or_else o (first_refusal (plan_rows ks ds plan))) (steps plan)) (clear_none (list_rows ks ds) (lawful_clear ks ds lawful)))
 
     -- a fault of the list is check's
-    pub list_fault : (f : ListFault) → told {X = Unit {0}} list_refusal (Err f) ≡ answered (first_refusal (list_rows ks ds)) tt
+    pub list_fault : (f : ListFault) → answered (first_refusal (list_rows ks ds)) (tt {0}) ≡ Err (list_refusal f)
         → told plan_refusal (Err (is.List f)) ≡ check_answer ks ds plan
     list_fault f e =
         sym (answer_parts
         ∙ ap (λ o. answered (or_else o (first_refusal (plan_rows ks ds plan))) (steps plan))
-        (answered_err (first_refusal (list_rows ks ds)) tt (list_refusal f) (sym e)))
+        (answered_err (first_refusal (list_rows ks ds)) tt (list_refusal f) e))
+
+-- the dimensions of a lawful list fit sets
+pub list_small : (l : LawfulList) → Small l.list.dimensions.now
+list_small l = lawful_small l.list.kinds.now l.list.dimensions.now l.lawful
 
 pub rows_law : RowsLaw
 rows_law ks ds plan = (refl, rows_clear ks ds plan)

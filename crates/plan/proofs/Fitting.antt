@@ -8,33 +8,32 @@ use Rattle.decomposition.proofs.Hinges.{hinged_same}
 use Rattle.decomposition.proofs.Underway.{underway_bounded}
 use Rattle.graph.specs.Lists.{lower_of, higher_of}
 use Rattle.graph.specs.declared.dimension.Dimension.{Dimension}
-use Rattle.plan.specs.Reach.{Small}
 use Rattle.plan.specs.Hinges.{hinges}
-use Rattle.plan.specs.Drafts.{drafted, draft_table, reach_at, unnamed_at, Fit, Drafted}
+use Rattle.plan.specs.Drafts.{count, draft_table, reach_at, unnamed_at, Fit, Drafted}
 use Rattle.plan.specs.declared.draft.Draft.{Draft}
-use Rattle.plan.proofs.Naming.{nodes_length}
 use Rattle.plan.proofs.Hinging.{hinges_shares, hinges_hinged, hinged_hinges}
-use Rattle.plan.proofs.Drafting.{drafted_length}
+use Rattle.plan.proofs.Drafting.{table_length}
+use Rattle.plan.proofs.Naming.{Small}
 
 module _ (ds : List Dimension) (small : Small ds) (m : ℕ) (within : m ≤ length ds) (d : Draft) (h : Drafted m ds d) where
   abbrev table : List Node
   table = draft_table d
 
   -- the set that is kept of an entry, and what its tree reaches
-  same : (e : ℕ) → e < d.count → (i : ℕ) → reach_at d e i ≡ reach (lower_of ds) (higher_of ds) (tree_at table e) i
-  same e l i = h.told.reaches e i l
+  same : (e : ℕ) → e < count d → (i : ℕ) → reach_at d e i ≡ reach (lower_of ds) (higher_of ds) (tree_at table e) i
+  same e l i = h.reaches e i l
 
-  below : (e : ℕ) → e < d.count → (i : ℕ) → reach_at d e i ≡ true → i < 64
+  below : (e : ℕ) → e < count d → (i : ℕ) → reach_at d e i ≡ true → i < 64
   below e l i t =
-      let size = nodes_length (drafted d) ∙ drafted_length d h.long h.room in
-      underway_bounded (lower_of ds) (higher_of ds) m table h.told.underway 64 (λ j k. small j (omega arith)) e (omega arith) i (sym (same e l i) ∙ t)
+      let size = table_length d in
+      underway_bounded (lower_of ds) (higher_of ds) m table h.underway 64 (λ j k. small j (omega arith)) e (omega arith) i (sym (same e l i) ∙ t)
 
-  pub fit_joins : (a b c : ℕ) → Fit d a b c → CanJoin (lower_of ds) (higher_of ds) table d.count a b c
+  pub fit_joins : (a b c : ℕ) → Fit d a b c → CanJoin (lower_of ds) (higher_of ds) table (count d) a b c
   fit_joins a b c f =
       let ab = f.a<b in
       let bc = f.b<c in
-      let la : a < d.count = omega (arith, f.c<k) in
-      let lb : b < d.count = omega (arith, f.c<k) in
+      let la : a < count d = omega (arith, f.c<k) in
+      let lb : b < count d = omega (arith, f.c<k) in
       let lc = f.c<k in
       let p = and_parts (unnamed_at d b) _ f.meeting in
       let q = and_parts (unnamed_at d c) _ f.closing in
@@ -43,19 +42,19 @@ module _ (ds : List Dimension) (small : Small ds) (m : ℕ) (within : m ≤ leng
         i<j = ab;
         j<k = bc;
         k_below = lc;
-        i_live = sym (h.told.flags a la) ∙ f.opens;
-        j_live = sym (h.told.flags b lb) ∙ p.0;
-        k_live = sym (h.told.flags c lc) ∙ q.0;
+        i_live = sym (h.flags a la) ∙ f.opens;
+        j_live = sym (h.flags b lb) ∙ p.0;
+        k_live = sym (h.flags c lc) ∙ q.0;
         hinges = (r.0, r.1, r.2, hinged_same (same a la) (same b lb) (same c lc) r.3);
       }
 
-  pub joins_fit : (a b c : ℕ) → CanJoin (lower_of ds) (higher_of ds) table d.count a b c → Fit d a b c
+  pub joins_fit : (a b c : ℕ) → CanJoin (lower_of ds) (higher_of ds) table (count d) a b c → Fit d a b c
   joins_fit a b c j =
       let ab = j.i<j in
       let bc = j.j<k in
       let lc = j.k_below in
-      let la : a < d.count = omega arith in
-      let lb : b < d.count = omega arith in
+      let la : a < count d = omega arith in
+      let lb : b < count d = omega arith in
       let g = j.hinges in
       let all : hinges (reach_at d a) (reach_at d b) (reach_at d c) ≡ true =
       hinged_hinges (reach_at d a) (reach_at d b) (reach_at d c) (below a la) (below b lb) (below c lc) g.0 g.1 g.2
@@ -64,7 +63,7 @@ module _ (ds : List Dimension) (small : Small ds) (m : ℕ) (within : m ≤ leng
         a<b = ab;
         b<c = bc;
         c<k = lc;
-        opens = h.told.flags a la ∙ j.i_live;
-        meeting = and_from (unnamed_at d b) _ (h.told.flags b lb ∙ j.j_live) (hinges_shares (reach_at d a) (reach_at d b) (reach_at d c) all);
-        closing = and_from (unnamed_at d c) _ (h.told.flags c lc ∙ j.k_live) all;
+        opens = h.flags a la ∙ j.i_live;
+        meeting = and_from (unnamed_at d b) _ (h.flags b lb ∙ j.j_live) (hinges_shares (reach_at d a) (reach_at d b) (reach_at d c) all);
+        closing = and_from (unnamed_at d c) _ (h.flags c lc ∙ j.k_live) all;
       }

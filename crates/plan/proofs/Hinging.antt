@@ -1,6 +1,6 @@
 -- Three sets that are hinged, by what they share two by two.
 use Rattle.std.proofs.Common.{◌≡◌, ℕ, ◌<◌, true, false, not, ◌&&◌, eqb, sym, refl, ◌∙◌, arith}
-use Rattle.std.proofs.lemmas.Bool.{both_ways, eqb-true, eq-eqb, ne_eqb, and_parts}
+use Rattle.std.proofs.lemmas.Bool.{both_ways, eqb-true, eq-eqb, and_parts}
 use Rattle.std.proofs.lemmas.Bool.Decides.{nat_tests}
 use Rattle.decomposition.specs.Sets.{Subset, count, meet}
 use Rattle.decomposition.specs.Trees.{Hinged, hinge_test}
@@ -35,11 +35,6 @@ module _ (A B : Subset) where
   pub one_shares : ((i : ℕ) → A i ≡ true → i < 64) → (k : ℕ) → Shares (meet A B) (One k) → share_one A B ≡ true
   unfolding how_many
   one_shares below k h = eq-eqb (count 64 (meet A B)) 1 (single_count 64 (meet A B) k (below k (in_both A B k h).0) h)
-
-  pub other_shares : (s : Shared) → Shares (meet A B) s → ((k : ℕ) → s ≡ One k → ⊥) → share_one A B ≡ false
-  other_shares (One k) h not = absurd (not k refl)
-  other_shares Nothing h not = ne_eqb (how_many (meet A B)) 1 (λ e. omega arith)
-  other_shares Several h not = ne_eqb (how_many (meet A B)) 1 (λ e. omega arith)
 
 module _ (A B C : Subset) where
   hinges_counts : hinges A B C ≡ true → (how_many (meet A B) ≡ 1) × (how_many (meet B C) ≡ 1) × (how_many (meet C A) ≡ 1)

@@ -10,6 +10,10 @@ pub mod Rules
 pub mod Exactly
 -- plans of trees
 pub mod Complete
+-- how many entries pass a test
+pub mod Counted
+-- the search for three entries
+pub mod Searching
 -- a plan in the making, and one entry more
 pub mod Drafting
 -- the three entries that the search takes

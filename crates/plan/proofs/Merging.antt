@@ -1,25 +1,23 @@
 -- What merge's answers mean.
-use Rattle.std.proofs.Common.{◌≡◌, ℕ, ◌-◌, ◌≤◌, List, [], ◌∷◌, ◌++◌, map, length, take, drop, Some, None, Ok, Err, Option, Result, sym, refl, ap, ◌∙◌, subst, ap₂, inl, inr, arith}
-use Rattle.std.proofs.lemmas.Bool.{le-ltb, ltb-false}
+use Rattle.std.proofs.Common.{◌≡◌, ℕ, ◌<◌, ◌≤◌, List, [], ◌∷◌, ◌++◌, cond, map, length, take, drop, Some, None, Ok, Err, Option, Result, sym, refl, ap, ◌∙◌, subst, inl, inr, arith}
+use Rattle.std.proofs.lemmas.Bool.{le-ltb, lt-ltb}
 use Rattle.std.proofs.lemmas.List.{take_at}
 use Rattle.decomposition.specs.Merging.{CanJoin, Merged}
 use Rattle.decomposition.proofs.Merged.{planning}
 use Rattle.decomposition.proofs.MergedExists.{merging}
-use Rattle.graph.specs.Rows.{Row, row_at, or_else, lowest, reported, first_refusal, answered, told, AllClear}
+use Rattle.graph.specs.Rows.{Row, row_at, or_else, reported, first_refusal, answered, told, AllClear}
 use Rattle.graph.specs.Lists.{lower_of, higher_of, list_rows, Lawful}
 use Rattle.graph.specs.ListFaults.{list_refusal}
 use Rattle.graph.specs.declared.dimension.Dimension.{Dimension}
 use Rattle.graph.specs.declared.faults.ListFault.{ListFault}
 use Rattle.graph.proofs.Reading.{reading, clear_none, refusal_append}
-use Rattle.decomposition.proofs.Lowest.{none_clears}
 use Rattle.graph.proofs.Told.{answered_err}
 use Rattle.graph.proofs.Lawfully.{lawful_clear}
 use Rattle.plan.specs.Entries.{nodes, steps}
-use Rattle.plan.specs.Reach.{Small}
 use Rattle.plan.specs.PlanRows.{few_places}
 use Rattle.plan.specs.PlanFaults.{plan_refusal}
 use Rattle.plan.specs.Check.{AcceptedPlan, Accepting}
-use Rattle.plan.specs.Drafts.{drafted, draft_table, LowestThree, Drafted}
+use Rattle.plan.specs.Drafts.{drafted, count, draft_table, LowestThree, Drafted}
 use Rattle.plan.specs.Merge.{
   MergedTable,
   OneMerged,
@@ -36,11 +34,11 @@ use Rattle.plan.specs.declared.entry.Entry.{Entry}
 use Rattle.plan.specs.declared.draft.Draft.{Draft}
 use Rattle.plan.specs.declared.faults.PlanFault.{PlanFault}
 use Rattle.plan.specs.declared.faults.PlanFault.TheVariants as is
-use Rattle.plan.proofs.Naming.{nodes_length}
 use Rattle.plan.proofs.Exactly.{clear_append, answer_ok}
 use Rattle.plan.proofs.Complete.{entry_of, entries_back, nodes_back}
-use Rattle.plan.proofs.Drafting.{drafted_length}
+use Rattle.plan.proofs.Drafting.{table_length}
 use Rattle.plan.proofs.Fitting.{joins_fit}
+use Rattle.plan.proofs.Naming.{Small}
 
 -- the rule's table
 
@@ -66,20 +64,16 @@ planless ks ds plan lawful merged fails other k e =
 -- a draft with no three left to join is the rule's table
 pub merged_draft : (ds : List Dimension) → Small ds → (d : Draft) → Drafted (length ds) ds d → LowestThree d None → MergedTable ds (drafted d)
 merged_draft ds small d h done =
-    let size : length (draft_table d) ≡ d.count = nodes_length (drafted d) ∙ drafted_length d h.long h.room in
-    let all : (x y z : ℕ) → CanJoin (lower_of ds) (higher_of ds) (draft_table d) d.count x y z → ⊥ =
+    let all : (x y z : ℕ) → CanJoin (lower_of ds) (higher_of ds) (draft_table d) (count d) x y z → ⊥ =
     (λ x y z can. done x y z (joins_fit ds small (length ds) (omega arith) d h x y z can)) in
     record {
-      underway = h.told.underway;
-      done = subst (λ k. (x y z : ℕ) → CanJoin (lower_of ds) (higher_of ds) (draft_table d) k x y z → ⊥) (sym size) all;
+      underway = h.underway;
+      done = subst (λ k. (x y z : ℕ) → CanJoin (lower_of ds) (higher_of ds) (draft_table d) k x y z → ⊥) (sym (table_length d)) all;
     }
 
 -- a plan written to the front of a table, and read back
-pub written : (plan part old : List Entry) → part ≡ plan → part ++ drop (length plan - 0) old ≡ plan ++ drop (length plan) old
-written plan part old is = let same : length plan - 0 ≡ length plan = omega arith in ap₂ (λ p k. p ++ drop k old) is same
-
-pub read_back : (plan part old : List Entry) → part ≡ plan → take (length plan - 0) (part ++ drop (length plan - 0) old) ≡ plan
-read_back plan part old is = let long : length part ≡ length plan - 0 = ap length is ∙ omega arith in take_at part _ (length plan - 0) long ∙ is
+pub read_back : (plan part old : List Entry) → part ≡ plan → take (length plan) (part ++ drop (length plan) old) ≡ plan
+read_back plan part old is = take_at part _ (length plan) (ap length is) ∙ is
 
 -- answers
 
@@ -134,21 +128,17 @@ module _ (ks : List ℕ) (ds : List Dimension) (old : List Entry) where
     law = λ lawful enough. absurd (none_some _ _ (clear_none rows (rows_clear lawful enough)) hit);
   }
 
-  pub list_refused : (f : ListFault) → told {X = Unit {0}} list_refusal (Err f) ≡ answered (first_refusal (list_rows ks ds)) tt
-      → Outcome ks ds old old (Err (is.List f))
+  pub list_refused : (f : ListFault) → answered (first_refusal (list_rows ks ds)) (tt {0}) ≡ Err (list_refusal f) → Outcome ks ds old old (Err (is.List f))
   list_refused f e =
       row_refused (is.List f)
-      (refusal_parts ∙ ap (λ o. or_else o (first_refusal place_row)) (answered_err (first_refusal (list_rows ks ds)) tt (list_refusal f) (sym e)))
+      (refusal_parts ∙ ap (λ o. or_else o (first_refusal place_row)) (answered_err (first_refusal (list_rows ks ds)) tt (list_refusal f) e))
 
-  pub places_refused : Lawful ks ds → (p : ℕ) → Some p ≡ lowest 1 (few_places (length old)) → Outcome ks ds old old (Err (is.FewPlaces (length old)))
-  places_refused lawful p few =
+  pub places_refused : Lawful ks ds → length old < 187 → Outcome ks ds old old (Err (is.FewPlaces (length old)))
+  places_refused lawful few =
       row_refused (is.FewPlaces (length old))
       (refusal_parts
       ∙ ap (λ o. or_else o (first_refusal place_row)) (clear_none (list_rows ks ds) (lawful_clear ks ds lawful))
-      ∙ ap (λ o. or_else (reported (row_at 3 18 1 (few_places (length old)) (λ _. length old)) o) None) (sym few))
-
-  pub enough_places : None ≡ lowest 1 (few_places (length old)) → 187 ≤ length old
-  enough_places e = ltb-false (length old) 187 (none_clears 1 (few_places (length old)) (sym e) 0 (omega arith))
+      ∙ ap (λ b. or_else (reported (row_at 3 18 1 (few_places (length old)) (λ _. length old)) (cond b (Some 0) None)) None) (lt-ltb (length old) 187 few))
 
   -- behind the rows, the table of the rule
   module _ (lawful : Lawful ks ds) (enough : 187 ≤ length old) (plan : List Entry) (merged : MergedTable ds plan) where

@@ -4,11 +4,16 @@ use lib.ListN.{length-map, get_or-map}
 use Rattle.std.proofs.lemmas.Bool.Decides.{nat_tests}
 use Rattle.decomposition.specs.Tables.{Node, names, joins, node}
 use Rattle.graph.specs.Rows.{Clear}
+use Rattle.graph.specs.Lists.{lower_of, higher_of}
 use Rattle.graph.specs.declared.dimension.Dimension.{Dimension}
 use Rattle.plan.specs.Entries.{entry_at, node_of, nodes}
 use Rattle.plan.specs.PlanRows.{misnames, misnamed}
 use Rattle.plan.specs.declared.entry.Entry.{Entry}
 use Rattle.plan.specs.declared.entry.Entry.TheVariants.{Leaf, Step}
+
+-- the ends of every dimension fit a set of elements
+abbrev pub Small : List Dimension → Type 0
+Small ds = (i : ℕ) → i < length ds → (lower_of ds i < 64) × (higher_of ds i < 64)
 
 -- the table has the plan's entries
 pub node_at : (plan : List Entry) (e : ℕ) → node (nodes plan) e ≡ node_of (entry_at plan e)

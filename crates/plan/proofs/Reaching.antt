@@ -1,5 +1,5 @@
 -- What an entry reaches, from what the entries that it names reach.
-use Rattle.std.proofs.Common.{◌≡◌, ℕ, ◌-◌, ◌<◌, false, ◌&&◌, ◌||◌, eqb, ltb, List, length, sym, ap, ◌∙◌, ap₂}
+use Rattle.std.proofs.Common.{◌≡◌, ℕ, ◌-◌, ◌<◌, ◌&&◌, ◌||◌, eqb, ltb, List, length, sym, ap, ◌∙◌, ap₂}
 use Rattle.std.proofs.lemmas.Bool.{lt-ltb}
 use Rattle.decomposition.specs.Trees.{reach, Bounded}
 use Rattle.decomposition.specs.Tables.{node, tree_at, root}
@@ -11,11 +11,11 @@ use Rattle.graph.specs.Lists.{lower_of, higher_of}
 use Rattle.graph.specs.declared.dimension.Dimension.{Dimension}
 use Rattle.graph.specs.declared.element_set.ElementSet.{ElementSet}
 use Rattle.plan.specs.Entries.{entry_at, node_of, nodes}
-use Rattle.plan.specs.Reach.{reached, Small}
+use Rattle.plan.specs.Reach.{reached}
 use Rattle.plan.specs.PlanRows.{misnamed}
 use Rattle.plan.specs.declared.entry.Entry.{Entry}
 use Rattle.plan.specs.declared.entry.Entry.TheVariants.{Leaf, Step}
-use Rattle.plan.proofs.Naming.{node_at, nodes_length, listed, rising, fits_at}
+use Rattle.plan.proofs.Naming.{Small, node_at, nodes_length, listed, rising, fits_at}
 
 -- the last entry, by the length of the table
 pub reached_root : (ds : List Dimension) (plan : List Entry) (i : ℕ)
@@ -45,17 +45,14 @@ module _ (ds : List Dimension) (plan : List Entry) (named : Clear (length plan) 
       (λ e a b c l q x y z.
       bounded_step (lower_of ds) (higher_of ds) 64 (tree_at (nodes plan) a) (tree_at (nodes plan) b) (tree_at (nodes plan) c) x y z)
 
-  -- the set of a leaf: the two ends, put one after the other into the set of none
-  pub leaf_set : (none one two : ElementSet) (e d : ℕ) → e < length plan → entry_at plan e ≡ Leaf d → ((j : ℕ) → members none j ≡ false)
-      → ((j : ℕ) → members one j ≡ (members none j || (ltb (lower_of ds d) 64 && eqb j (lower_of ds d))))
-      → ((j : ℕ) → members two j ≡ (members one j || (ltb (higher_of ds d) 64 && eqb j (higher_of ds d))))
-      → (j : ℕ) → members two j ≡ reached ds plan e j
-  leaf_set none one two e d l q h k m j =
+  -- the set of a leaf: the two ends
+  pub leaf_set : (both : ElementSet) (e d : ℕ) → e < length plan → entry_at plan e ≡ Leaf d
+      → ((j : ℕ) → members both j ≡ ((ltb (lower_of ds d) 64 && eqb j (lower_of ds d)) || (ltb (higher_of ds d) 64 && eqb j (higher_of ds d))))
+      → (j : ℕ) → members both j ≡ reached ds plan e j
+  leaf_set both e d l q h j =
       let s = small d (fits_at ds plan named e (Leaf d) l q) in
-      let first : members one j ≡ eqb j (lower_of ds d) =
-      k j ∙ ap₂ (λ x t. x || (t && eqb j (lower_of ds d))) (h j) (lt-ltb (lower_of ds d) 64 s.0) in
-      m j
-      ∙ ap₂ (λ x t. x || (t && eqb j (higher_of ds d))) first (lt-ltb (higher_of ds d) 64 s.1)
+      h j
+      ∙ ap₂ (λ p t. (p && eqb j (lower_of ds d)) || (t && eqb j (higher_of ds d))) (lt-ltb (lower_of ds d) 64 s.0) (lt-ltb (higher_of ds d) 64 s.1)
       ∙ sym (reached_leaf e d j q)
 
   -- the set of a step: what its three entries reach

@@ -10,13 +10,13 @@ use Rattle.graph.specs.Lists.{lower_of, higher_of}
 use Rattle.graph.specs.declared.dimension.Dimension.{Dimension}
 use Rattle.decomposition.proofs.Lowest.{absent_clear, clear_absent}
 use Rattle.plan.specs.Entries.{entry_at, node_of, nodes}
-use Rattle.plan.specs.Reach.{reached, Small}
+use Rattle.plan.specs.Reach.{reached}
 use Rattle.plan.specs.Hinges.{hinges}
 use Rattle.plan.specs.PlanRows.{misnamed, names_entry, not_named_once, names_dimension, unhinged, not_reached, plan_rows}
 use Rattle.plan.specs.Check.{AcceptedPlan}
 use Rattle.plan.specs.declared.entry.Entry.{Entry}
 use Rattle.plan.specs.declared.entry.Entry.TheVariants.{Leaf, Step}
-use Rattle.plan.proofs.Naming.{Fits, node_at, nodes_length, names_clear, fits, listed, rising}
+use Rattle.plan.proofs.Naming.{Small, Fits, node_at, nodes_length, names_clear, fits, listed, rising}
 use Rattle.plan.proofs.Reaching.{reached_root, bounded}
 use Rattle.plan.proofs.Hinging.{hinges_hinged, hinged_hinges}
 

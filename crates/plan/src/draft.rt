@@ -1,25 +1,28 @@
 //! A plan in the making, and the three entries that it joins next.
-ghost use Rattle.std.specs.Prelude.{◌≡◌, ◌+◌, ◌<◌, ◌≤◌};
+ghost use Rattle.std.specs.Prelude.{◌≡◌, ◌<◌, [], ◌∷◌, ◌++◌};
 ghost use Rattle.graph.specs.Limits.{most_entries};
-ghost use Rattle.graph.specs.ElementSets.{members};
-ghost use Rattle.plan.specs.Reach.{Small};
-ghost use Rattle.plan.specs.Hinges.{share_one};
-ghost use Rattle.plan.specs.Drafts.{drafted, Long, NamedRight, meets, closes, Blank, Pushed, without, Third, Second, LowestThree};
+ghost use Rattle.plan.specs.Reach.{IsEnds};
+ghost use Rattle.plan.specs.Drafts.{drafted, count, new_part, with_named, meets, closes, Joined, Third, Second, LowestThree};
 
 use crate::entry::Entry;
-use crate::hinges::hinged;
-use crate::reach::reach;
+use crate::reaches::{ends, hinged, sharing_one};
+use arrayvec::ArrayVec;
 use graph::dimension::Dimension;
-use graph::element_set::{ElementSet, Shared};
+use graph::element_set::ElementSet;
 use graph::limits::MOST_ENTRIES;
 
-// The entries so far, and for each of them what it reaches and whether no step names it.
+// An entry, what it reaches, and whether no step names it. The reach stays when it is named: it is that of every entry.
+#[derive(Clone, Copy, Default)]
+pub(crate) struct Part {
+    entry: Entry,
+    reach: ElementSet,
+    unnamed: bool,
+}
+
+// The entries so far.
 #[derive(Drop)]
 pub(crate) struct Draft {
-    entries: [Entry; MOST_ENTRIES],
-    reaches: [ElementSet; MOST_ENTRIES],
-    unnamed: [bool; MOST_ENTRIES],
-    count: usize,
+    parts: ArrayVec<Part, MOST_ENTRIES>,
 }
 
 // The numbers of three entries, in rising order.
@@ -30,110 +33,114 @@ pub(crate) struct Three {
     third: usize,
 }
 
-// Whether two sets share exactly one element.
-fn sharing_one(a: ElementSet, b: ElementSet) -> bool
-    ensures { result ≡ share_one (members a) (members b) }
-{
-    match a.compare(b) {
-        Shared::One { .. } => true,
-        Shared::Nothing | Shared::Several => false,
-    }
-}
-
 impl Draft {
     // No entry yet.
     pub(crate) fn new() -> Draft
-        ensures { Blank result }
+        ensures { result.parts.items ≡ [] }
     {
         Draft {
-            entries: [Entry::Leaf { place: 0 }; MOST_ENTRIES],
-            reaches: [ElementSet::empty(); MOST_ENTRIES],
-            unnamed: [false; MOST_ENTRIES],
-            count: 0,
+            parts: ArrayVec::new(),
         }
     }
 
     // The entries so far.
-    pub(crate) fn plan(&self) -> &[Entry]
-        requires long { Long self.now }
-        requires room { self.now.count ≤ most_entries }
-        ensures { result.now ≡ drafted self.now }
+    pub(crate) fn plan(&self) -> ArrayVec<Entry, MOST_ENTRIES>
+        ensures { result.items ≡ drafted self.now }
     {
-        &self.entries[0..self.count]
+        let mut plan = ArrayVec::new();
+        for part in self.parts.as_slice() {
+            plan.push(part.entry);
+        }
+        plan
     }
 
-    // One more entry, which no step names, and what it reaches.
-    pub(crate) fn push(&mut self, dimensions: &[Dimension], entry: Entry)
-        requires small { Small dimensions.now }
-        requires room { self.old.count < most_entries }
-        requires long { Long self.old }
-        requires named { NamedRight dimensions.now self.old entry }
-        ensures { Pushed dimensions.now self.old entry self.new }
+    // One more entry, which no step names. A full draft is a draft too, so whoever adds an entry shows that there is room.
+    fn push(&mut self, entry: Entry, reach: ElementSet)
+        requires { count self.old < most_entries }
+        ensures { self.new.parts.items ≡ self.old.parts.items ++ new_part entry reach ∷ [] }
     {
-        let at = self.count;
-        self.entries[at] = entry;
-        self.unnamed[at] = true;
-        self.reaches[at] = reach(dimensions, &self.entries[0..at + 1], at);
-        self.count = at + 1;
+        self.parts.push(Part {
+            entry,
+            reach,
+            unnamed: true,
+        });
     }
 
-    // The step of three entries, which are named from here on.
-    pub(crate) fn join(&mut self, dimensions: &[Dimension], three: Three)
-        requires small { Small dimensions.now }
-        requires below { (three.first < most_entries) × ((three.second < most_entries) × (three.third < most_entries)) }
-        requires room { self.old.count < most_entries }
-        requires long { Long self.old }
-        requires named { NamedRight dimensions.now self.old (Entry.Step three.first three.second three.third) }
-        ensures { Pushed dimensions.now (without self.old three) (Entry.Step three.first three.second three.third) self.new }
+    // The leaf of a dimension, for which there is room.
+    pub(crate) fn push_leaf(&mut self, place: u16, dimension: Dimension)
+        requires { count self.old < most_entries }
+        ensures { (both : ElementSet) × IsEnds dimension both × (self.new.parts.items ≡ self.old.parts.items ++ new_part (Entry.Leaf place) both ∷ []) }
     {
-        self.unnamed[three.first] = false;
-        self.unnamed[three.second] = false;
-        self.unnamed[three.third] = false;
-        self.push(
-            dimensions,
-            Entry::Step {
-                first: three.first as u16,
-                second: three.second as u16,
-                third: three.third as u16,
-            },
-        );
+        self.push(Entry::Leaf { place }, ends(dimension));
+    }
+
+    // A step names the entry from here on. Here and below a number is one of this draft's, which grows, so no type can say it.
+    fn name(&mut self, entry: usize)
+        requires { entry < count self.old }
+        ensures { self.new.parts.items ≡ with_named self.old.parts.items entry }
+    {
+        self.parts[entry].unnamed = false;
+    }
+
+    // The step of three entries, which are named from here on, where there is room.
+    pub(crate) fn join(&mut self, three: Three)
+        requires room { count self.old < most_entries }
+        requires below { (three.first < count self.old) × (three.second < count self.old) × (three.third < count self.old) }
+        ensures { Joined self.old three self.new }
+    {
+        let Three {
+            first,
+            second,
+            third,
+        } = three;
+        let a = self.parts[first].reach;
+        let b = self.parts[second].reach;
+        let c = self.parts[third].reach;
+        self.name(first);
+        self.name(second);
+        self.name(third);
+        // Numbers of entries fit: no draft has more than a plan.
+        let step = Entry::Step {
+            first: first as u16,
+            second: second as u16,
+            third: third as u16,
+        };
+        self.push(step, a.union(b.union(c)));
     }
 
     // No step names b, and it shares exactly one element with a.
     fn meeting(&self, a: usize, b: usize) -> bool
-        requires { (a < most_entries) × (b < most_entries) }
+        requires { (a < count self.now) × (b < count self.now) }
         ensures { result ≡ meets self.now a b }
     {
-        self.unnamed[b] && sharing_one(self.reaches[a], self.reaches[b])
+        self.parts[b].unnamed && sharing_one(self.parts[a].reach, self.parts[b].reach)
     }
 
     // No step names c, and a step can join it with a and b.
     fn closing(&self, a: usize, b: usize, c: usize) -> bool
-        requires { (a < most_entries) × ((b < most_entries) × (c < most_entries)) }
+        requires { (a < count self.now) × (b < count self.now) × (c < count self.now) }
         ensures { result ≡ closes self.now a b c }
     {
-        self.unnamed[c] && hinged(self.reaches[a], self.reaches[b], self.reaches[c])
+        let parts = &self.parts;
+        parts[c].unnamed && hinged(parts[a].reach, parts[b].reach, parts[c].reach)
     }
 
     // The lowest third entry for a first and a second.
     fn lowest_third(&self, a: usize, b: usize) -> Option<usize>
-        requires { (a < b) × ((b < self.now.count) × (self.now.count ≤ most_entries)) }
+        requires { (a < b) × (b < count self.now) }
         ensures { Third self.now a b result }
     {
-        for c in b + 1..self.count {
-            if self.closing(a, b, c) {
-                return Some(c);
-            }
-        }
-        None
+        let count = self.parts.len();
+        (b + 1..count).find(|&c| self.closing(a, b, c))
     }
 
-    // The lowest second and third entry for a first.
+    // The lowest second and third entry for a first. With `find_map` over the range the proof did not close.
     fn lowest_second(&self, a: usize) -> Option<(usize, usize)>
-        requires { (a < self.now.count) × (self.now.count ≤ most_entries) }
+        requires { a < count self.now }
         ensures { Second self.now a result }
     {
-        for b in a + 1..self.count {
+        let count = self.parts.len();
+        for b in a + 1..count {
             if self.meeting(a, b) {
                 if let Some(c) = self.lowest_third(a, b) {
                     return Some((b, c));
@@ -143,18 +150,17 @@ impl Draft {
         None
     }
 
-    // The lowest three entries that no step names and one can join.
+    // The lowest three entries that no step names and one can join. Again not by `find_map`.
     pub(crate) fn lowest_three(&self) -> Option<Three>
-        requires { self.now.count ≤ most_entries }
         ensures { LowestThree self.now result }
     {
-        for a in 0..self.count {
-            if self.unnamed[a] {
-                if let Some((b, c)) = self.lowest_second(a) {
+        for first in 0..self.parts.len() {
+            if self.parts[first].unnamed {
+                if let Some((second, third)) = self.lowest_second(first) {
                     return Some(Three {
-                        first: a,
-                        second: b,
-                        third: c,
+                        first,
+                        second,
+                        third,
                     });
                 }
             }

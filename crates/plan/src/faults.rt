@@ -7,7 +7,7 @@ use graph::faults::ListFault;
 use graph::refusal::Refusal;
 
 /// What is wrong with a plan, or with the list that it is for.
-#[derive(Clone, Copy)]
+#[derive(Clone, Copy, PartialEq, Eq, Debug)]
 pub enum PlanFault {
     /// The list is not lawful.
     List(ListFault),
@@ -29,13 +29,12 @@ pub enum PlanFault {
     NoPlan,
 }
 
-impl PlanFault {
-    /// The fault in numbers.
-    pub fn refusal(self) -> Refusal
-        ensures { result ≡ plan_refusal self }
-    {
-        let (number, place) = match self {
-            PlanFault::List(fault) => return fault.refusal(),
+impl From<PlanFault> for Refusal {
+    ghost from_gives = { λ fault told. told ≡ plan_refusal fault };
+
+    fn from(fault: PlanFault) -> Refusal {
+        let (number, place) = match fault {
+            PlanFault::List(fault) => return Refusal::from(fault),
             PlanFault::WrongCount { entries } => (12, entries),
             PlanFault::Misnamed { entry } => (13, entry),
             PlanFault::NotNamedOnce { entry } => (14, entry),
@@ -53,6 +52,7 @@ impl PlanFault {
     }
 }
 
+// By hand, so that a clause can say which fault comes through a `?`.
 impl From<ListFault> for PlanFault {
     ghost from_gives = { λ f s. s ≡ List f };
 

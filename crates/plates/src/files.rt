@@ -1,5 +1,6 @@
 //! Files, good and bad.
-use crate::score::{Score, Verdict, refused};
+use crate::score::{Done, Score, adopted, refused};
+use sketch::faults::SketchFault;
 use sketch::sketch::Sketch;
 use std::io;
 
@@ -13,56 +14,43 @@ pub const BRACED_SQUARE: [u8; 53] = [
 const TWO_POINTS: [u8; 15] = [1, 0, 12, 2, 0, 0, 1, 0, 1, 5, 1, 0, 0, 0, 0];
 
 /// What a newly made sketch answers to a file.
-pub fn adopted(bytes: &[u8]) -> Verdict {
-    match Sketch::new().adopt(bytes) {
-        Ok((elements, dimensions, entries)) => Verdict::Adopted(elements, dimensions, entries),
-        Err(fault) => Verdict::Refused(fault.refusal()),
-    }
+pub fn adopting(bytes: &[u8]) -> Result<Done, SketchFault> {
+    Sketch::new().adopt(bytes).map(Done::Adopted)
 }
 
 /// Works the examples of files.
-pub fn work(rt: &HostRuntime, score: &mut Score) -> io::Result<()> {
-    let two_points = Verdict::Adopted(2, 1, 1);
-    score.compare(rt, "two points", two_points, adopted(&TWO_POINTS))?;
-    let square = Verdict::Adopted(4, 5, 7);
-    score.compare(rt, "a braced square", square, adopted(&BRACED_SQUARE))?;
-    score.compare(rt, "nothing", refused(1, 1, 0), adopted(&[]))?;
-    score.compare(rt, "two bytes", refused(1, 1, 2), adopted(&[1, 0]))?;
-    score.compare(rt, "version 2", refused(1, 2, 0), adopted(&[2, 0, 0]))?;
+pub fn work(score: &mut Score<'_>) -> io::Result<()> {
+    score.compare("two points", adopted(2, 1, 1), adopting(&TWO_POINTS))?;
     score.compare(
-        rt,
+        "a braced square",
+        adopted(4, 5, 7),
+        adopting(&BRACED_SQUARE),
+    )?;
+    score.compare("nothing", refused(1, 1, 0), adopting(&[]))?;
+    score.compare("two bytes", refused(1, 1, 2), adopting(&[1, 0]))?;
+    score.compare("version 2", refused(1, 2, 0), adopting(&[2, 0, 0]))?;
+    score.compare(
         "length 5 of one byte",
         refused(1, 3, 1),
-        adopted(&[1, 0, 5, 2]),
+        adopting(&[1, 0, 5, 2]),
     )?;
-    score.compare(rt, "one element", refused(1, 4, 3), adopted(&[1, 0, 1, 1]))?;
-    score.compare(rt, "no count", refused(1, 5, 3), adopted(&[1, 0, 0]))?;
-    score.compare(rt, "no kinds", refused(1, 5, 4), adopted(&[1, 0, 1, 2]))?;
+    score.compare("one element", refused(1, 4, 3), adopting(&[1, 0, 1, 1]))?;
+    score.compare("no count", refused(1, 5, 3), adopting(&[1, 0, 0]))?;
+    score.compare("no kinds", refused(1, 5, 4), adopting(&[1, 0, 1, 2]))?;
     let mut tagged = TWO_POINTS;
     tagged[11] = 2;
-    score.compare(rt, "an entry of tag 2", refused(1, 6, 11), adopted(&tagged))?;
+    score.compare("an entry of tag 2", refused(1, 6, 11), adopting(&tagged))?;
     let mut spare = TWO_POINTS;
     spare[14] = 1;
-    score.compare(
-        rt,
-        "a leaf's spare byte",
-        refused(1, 6, 11),
-        adopted(&spare),
-    )?;
+    score.compare("a leaf's spare byte", refused(1, 6, 11), adopting(&spare))?;
     let mut strange = TWO_POINTS;
     strange[5] = 2;
-    score.compare(
-        rt,
-        "an element of kind 2",
-        refused(2, 8, 1),
-        adopted(&strange),
-    )?;
+    score.compare("an element of kind 2", refused(2, 8, 1), adopting(&strange))?;
     let mut renamed = TWO_POINTS;
     renamed[12] = 1;
     score.compare(
-        rt,
         "a leaf of no dimension",
         refused(3, 13, 0),
-        adopted(&renamed),
+        adopting(&renamed),
     )
 }

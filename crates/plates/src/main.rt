@@ -15,6 +15,7 @@ use file::limits::MOST_BYTES;
 use files::BRACED_SQUARE;
 use plan::check::check;
 use score::Score;
+use sketch::counts::Counts;
 use sketch::faults::SketchFault;
 use sketch::report::{LONGEST_LINE, report};
 use sketch::sketch::Sketch;
@@ -22,27 +23,28 @@ use std::io;
 use std::io::Write;
 
 // What adopt answers.
-type Outcome = Result<(usize, usize, usize), SketchFault>;
+type Outcome = Result<Counts, SketchFault>;
 
 // Makes a sketch and gives it a plate.
 fn make(rt: &HostRuntime) -> anyhow::Result<Sketch> {
     let mut sketch = Sketch::new();
     println!(rt; "A new sketch has {} elements.", sketch.kinds().len())?;
-    let Ok((elements, dimensions, entries)) = sketch.adopt(&BRACED_SQUARE) else {
+    let Ok(counts) = sketch.adopt(&BRACED_SQUARE) else {
         return Err(anyhow!("the braced square was refused"));
     };
     println!(rt;
-        "It took over a braced square of {elements} elements and {dimensions} dimensions."
+        "It took over a braced square of {} elements and {} dimensions.",
+        counts.elements, counts.dimensions
     )?;
-    println!(rt; "The plan has {entries} entries.")?;
+    println!(rt; "The plan has {} entries.", counts.entries)?;
     Ok(sketch)
 }
 
 // Saves the one sketch and has the other adopt the file.
 fn pass_on(rt: &HostRuntime, from: &Sketch, to: &mut Sketch) -> io::Result<Outcome> {
-    let mut file = [0u8; MOST_BYTES];
+    let mut file = [0; MOST_BYTES];
     let length = from.save(&mut file).unwrap();
-    let outcome = to.adopt(&file[0..length]);
+    let outcome = to.adopt(&file[..length]);
     println!(rt; "It was saved as a file of {length} bytes.")?;
     println!(rt;
         "Another sketch adopted the file and has {} elements now.",
@@ -53,10 +55,10 @@ fn pass_on(rt: &HostRuntime, from: &Sketch, to: &mut Sketch) -> io::Result<Outco
 
 // Prints the report of an outcome.
 fn tell(rt: &HostRuntime, outcome: Outcome) -> io::Result<()> {
-    let mut line = [0u8; LONGEST_LINE];
+    let mut line = [0; LONGEST_LINE];
     let length = report(outcome, &mut line).unwrap();
     rt.print("The report says: ")?;
-    rt.stdout().write_all(&line[0..length])
+    rt.stdout().write_all(&line[..length])
 }
 
 // Makes a sketch, saves it, adopts the file into another, checks that one and reports.
@@ -64,7 +66,7 @@ fn from_sketch_to_line(rt: &HostRuntime) -> anyhow::Result<()> {
     let first = make(rt)?;
     let mut second = Sketch::new();
     let outcome = pass_on(rt, &first, &mut second)?;
-    let Ok(steps) = check(second.kinds(), second.dimensions(), second.plan()) else {
+    let Ok(steps) = check(second.list(), second.plan()) else {
         return Err(anyhow!("the adopted plan was refused"));
     };
     println!(rt; "Its plan was checked: {steps} steps.")?;
@@ -74,15 +76,15 @@ fn from_sketch_to_line(rt: &HostRuntime) -> anyhow::Result<()> {
 
 fn main(rt: HostRuntime) -> anyhow::Result<()> {
     from_sketch_to_line(&rt)?;
-    let mut score = Score::new();
+    let mut score = Score::new(&rt);
     println!(rt; "Files, layer 1:")?;
-    files::work(&rt, &mut score)?;
+    files::work(&mut score)?;
     println!(rt; "Lists, layer 2:")?;
-    lists::work(&rt, &mut score)?;
+    lists::work(&mut score)?;
     println!(rt; "Plans, layer 3:")?;
-    plans::work(&rt, &mut score)?;
+    plans::work(&mut score)?;
     println!(rt; "The largest plate, and buffers:")?;
-    largest::work(&rt, &mut score)?;
+    largest::work(&mut score)?;
     println!(rt; "{score}")?;
     Ok(())
 }

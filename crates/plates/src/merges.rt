@@ -1,10 +1,11 @@
 //! Plans that are looked for: lists that have one, and lists that have none.
 use crate::files::BRACED_SQUARE;
 use crate::largest::largest_file;
-use crate::lists::plain;
 use crate::plans::{braced_square, leaf, step};
+use crate::score::refused;
 use graph::dimension::Dimension;
 use graph::limits::MOST_ENTRIES;
+use graph::list::PlateList;
 use graph::refusal::Refusal;
 use plan::entry::Entry;
 use plan::merge::merge;
@@ -12,28 +13,17 @@ use sketch::sketch::Sketch;
 
 const ONE_PLACE_SHORT: usize = 186;
 
-// What merge answers to a list and a table, a fault in numbers.
+// What merge answers to a list, put together here, and a table; a fault in numbers.
 fn merged(kinds: &[u8], dimensions: &[Dimension], table: &mut [Entry]) -> Result<usize, Refusal> {
-    merge(kinds, dimensions, table).map_err(|fault| fault.refusal())
-}
-
-// The refusal of a layer by a number at a place.
-fn refused(layer: u8, number: u8, place: usize) -> Result<usize, Refusal> {
-    Err(Refusal {
-        layer,
-        number,
-        place,
-    })
+    Ok(merge(PlateList { kinds, dimensions }, table)?)
 }
 
 // What merge answers to the list of a file.
 fn planned(file: &[u8]) -> Result<usize, Refusal> {
     let mut sketch = Sketch::new();
-    if let Err(fault) = sketch.adopt(file) {
-        return Err(fault.refusal());
-    }
+    sketch.adopt(file)?;
     let mut table = [leaf(0); MOST_ENTRIES];
-    merged(sketch.kinds(), sketch.dimensions(), &mut table)
+    Ok(merge(sketch.list(), &mut table)?)
 }
 
 #[test]
@@ -65,10 +55,13 @@ fn the_lists_of_files(rt: HostRuntime) {
 #[test]
 fn tables_short_and_long(rt: HostRuntime) {
     let two = [0, 0];
-    let one = [plain(0, 1)];
+    let one = [Dimension::plain(0, 1)];
     let mut short = [leaf(9); ONE_PLACE_SHORT];
     assert_eq!(rt; merged(&two, &one, &mut short), refused(3, 18, 186));
-    assert_eq!(rt; merged(&two, &[plain(1, 1)], &mut short), refused(2, 10, 0));
+    assert_eq!(rt;
+        merged(&two, &[Dimension::plain(1, 1)], &mut short),
+        refused(2, 10, 0)
+    );
     let mut table = [leaf(9); MOST_ENTRIES];
     assert_eq!(rt; merged(&two, &one, &mut table), Ok(1));
 }
@@ -78,25 +71,25 @@ fn lists_that_have_no_plan(rt: HostRuntime) {
     let mut table = [leaf(9); MOST_ENTRIES];
     assert_eq!(rt; merged(&[0, 0], &[], &mut table), refused(3, 19, 0));
     let crowded = [
-        plain(0, 1),
-        plain(0, 2),
-        plain(0, 3),
-        plain(1, 2),
-        plain(1, 3),
-        plain(2, 3),
-        plain(3, 4),
+        Dimension::plain(0, 1),
+        Dimension::plain(0, 2),
+        Dimension::plain(0, 3),
+        Dimension::plain(1, 2),
+        Dimension::plain(1, 3),
+        Dimension::plain(2, 3),
+        Dimension::plain(3, 4),
     ];
     assert_eq!(rt; merged(&[0; 5], &crowded, &mut table), refused(3, 19, 0));
     let prism = [
-        plain(0, 1),
-        plain(0, 2),
-        plain(1, 2),
-        plain(0, 3),
-        plain(1, 4),
-        plain(3, 4),
-        plain(2, 5),
-        plain(3, 5),
-        plain(4, 5),
+        Dimension::plain(0, 1),
+        Dimension::plain(0, 2),
+        Dimension::plain(1, 2),
+        Dimension::plain(0, 3),
+        Dimension::plain(1, 4),
+        Dimension::plain(3, 4),
+        Dimension::plain(2, 5),
+        Dimension::plain(3, 5),
+        Dimension::plain(4, 5),
     ];
     assert_eq!(rt; merged(&[0; 6], &prism, &mut table), refused(3, 19, 0));
     assert_eq!(rt; table[0], leaf(9));

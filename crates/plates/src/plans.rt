@@ -1,6 +1,6 @@
 //! Plans, good and bad.
-use crate::lists::{checked, plain};
-use crate::score::{Score, Verdict, refused};
+use crate::lists::checked;
+use crate::score::{Done, Score, refused};
 use graph::dimension::Dimension;
 use plan::entry::Entry;
 use std::io;
@@ -24,11 +24,11 @@ const TOO_MANY_ENTRIES: usize = 188;
 /// The braced square of the files, its dimensions without their grades.
 pub fn braced_square() -> [Dimension; 5] {
     [
-        plain(0, 2),
-        plain(1, 2),
-        plain(0, 3),
-        plain(1, 3),
-        plain(2, 3),
+        Dimension::plain(0, 2),
+        Dimension::plain(1, 2),
+        Dimension::plain(0, 3),
+        Dimension::plain(1, 3),
+        Dimension::plain(2, 3),
     ]
 }
 
@@ -37,100 +37,99 @@ fn leaves_and(first: Entry, second: Entry) -> [Entry; 7] {
 }
 
 // Plans that are accepted.
-fn work_accepted(rt: &HostRuntime, score: &mut Score) -> io::Result<()> {
-    let one = checked(&[0, 1], &[plain(0, 1)], &[leaf(0)]);
-    score.compare(rt, "a point and a line", Verdict::Steps(0), one)?;
-    let triangle = [plain(0, 1), plain(0, 2), plain(1, 2)];
+fn work_accepted(score: &mut Score<'_>) -> io::Result<()> {
+    let one = checked(&[0, 1], &[Dimension::plain(0, 1)], &[leaf(0)]);
+    score.compare("a point and a line", Ok(Done::Steps(0)), one)?;
+    let triangle = [
+        Dimension::plain(0, 1),
+        Dimension::plain(0, 2),
+        Dimension::plain(1, 2),
+    ];
     let joined = [leaf(0), leaf(1), leaf(2), step(0, 1, 2)];
     score.compare(
-        rt,
         "a triangle",
-        Verdict::Steps(1),
+        Ok(Done::Steps(1)),
         checked(&[0, 0, 0], &triangle, &joined),
     )?;
     let points = [0, 0, 0, 0];
     let near = leaves_and(step(0, 2, 4), step(1, 3, 5));
     score.compare(
-        rt,
         "a braced square",
-        Verdict::Steps(2),
+        Ok(Done::Steps(2)),
         checked(&points, &braced_square(), &near),
     )?;
     let far = leaves_and(step(1, 3, 4), step(0, 2, 5));
     score.compare(
-        rt,
         "its other plan",
-        Verdict::Steps(2),
+        Ok(Done::Steps(2)),
         checked(&points, &braced_square(), &far),
     )
 }
 
 // Plans that are refused.
-fn work_refused(rt: &HostRuntime, score: &mut Score) -> io::Result<()> {
+fn work_refused(score: &mut Score<'_>) -> io::Result<()> {
     let two = [0, 0];
-    let one = [plain(0, 1)];
-    score.compare(
-        rt,
-        "an empty plan",
-        refused(3, 12, 0),
-        checked(&two, &one, &[]),
-    )?;
+    let one = [Dimension::plain(0, 1)];
+    score.compare("an empty plan", refused(3, 12, 0), checked(&two, &one, &[]))?;
     let long = [leaf(0); TOO_MANY_ENTRIES];
     score.compare(
-        rt,
         "188 entries",
         refused(3, 12, 188),
         checked(&two, &one, &long),
     )?;
     score.compare(
-        rt,
         "leaf 1 of one dimension",
         refused(3, 13, 0),
         checked(&two, &one, &[leaf(1)]),
     )?;
     score.compare(
-        rt,
         "a leaf of no dimension",
         refused(3, 13, 0),
         checked(&two, &[], &[leaf(0)]),
     )?;
     let itself = [leaf(0), leaf(0), step(0, 1, 2)];
     score.compare(
-        rt,
         "a step that names itself",
         refused(3, 13, 2),
         checked(&two, &one, &itself),
     )?;
     score.compare(
-        rt,
         "two leaves and no step",
         refused(3, 14, 0),
         checked(&two, &one, &[leaf(0), leaf(0)]),
     )?;
-    let triangle = [plain(0, 1), plain(0, 2), plain(1, 2)];
+    let triangle = [
+        Dimension::plain(0, 1),
+        Dimension::plain(0, 2),
+        Dimension::plain(1, 2),
+    ];
     score.compare(
-        rt,
         "a triangle, leaf 0 alone",
         refused(3, 15, 1),
         checked(&[0, 0, 0], &triangle, &[leaf(0)]),
     )?;
-    let star = [plain(0, 1), plain(0, 2), plain(0, 3)];
+    let star = [
+        Dimension::plain(0, 1),
+        Dimension::plain(0, 2),
+        Dimension::plain(0, 3),
+    ];
     let joined = [leaf(0), leaf(1), leaf(2), step(0, 1, 2)];
     score.compare(
-        rt,
         "three that meet in one",
         refused(3, 16, 3),
         checked(&[0, 0, 0, 0], &star, &joined),
     )?;
-    let path = [plain(0, 1), plain(1, 2), plain(2, 3)];
+    let path = [
+        Dimension::plain(0, 1),
+        Dimension::plain(1, 2),
+        Dimension::plain(2, 3),
+    ];
     score.compare(
-        rt,
         "three in a row",
         refused(3, 16, 3),
         checked(&[0, 0, 0, 0], &path, &joined),
     )?;
     score.compare(
-        rt,
         "three elements, only 0-1",
         refused(3, 17, 0),
         checked(&[0, 0, 0], &one, &[leaf(0)]),
@@ -138,7 +137,7 @@ fn work_refused(rt: &HostRuntime, score: &mut Score) -> io::Result<()> {
 }
 
 /// Works the examples of plans.
-pub fn work(rt: &HostRuntime, score: &mut Score) -> io::Result<()> {
-    work_accepted(rt, score)?;
-    work_refused(rt, score)
+pub fn work(score: &mut Score<'_>) -> io::Result<()> {
+    work_accepted(score)?;
+    work_refused(score)
 }

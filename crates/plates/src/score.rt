@@ -1,41 +1,54 @@
 //! What came out, held beside what was wanted.
 use graph::refusal::Refusal;
+use sketch::counts::Counts;
 use std::{fmt, io};
 
-/// What a call came to.
-#[derive(Clone, Copy, PartialEq)]
-pub enum Verdict {
+/// What a call did.
+#[derive(Clone, Copy, PartialEq, Eq, Debug)]
+pub enum Done {
     /// A plan was accepted: how many steps it has.
     Steps(usize),
-    /// A file was adopted: elements, dimensions and entries.
-    Adopted(usize, usize, usize),
+    /// A file was adopted: how much it holds.
+    Adopted(Counts),
     /// Bytes were written: how many.
     Written(usize),
-    /// The call was refused.
-    Refused(Refusal),
 }
 
-impl fmt::Display for Verdict {
+impl fmt::Display for Done {
     fn fmt<W: fmt::Write>(&self, f: &mut fmt::Formatter<W>) -> fmt::Result {
-        match *self {
-            Verdict::Steps(steps) => write!(f, "accepted, steps {steps}"),
-            Verdict::Adopted(elements, dimensions, entries) => {
-                write!(f, "yes {elements} {dimensions} {entries}")
-            }
-            Verdict::Written(bytes) => write!(f, "{bytes} bytes"),
-            Verdict::Refused(refusal) => {
-                let layer = refusal.layer;
-                let number = refusal.number;
-                let place = refusal.place;
-                write!(f, "no {layer} {number} {place}")
-            }
+        match self {
+            Done::Steps(steps) => write!(f, "accepted, steps {steps}"),
+            Done::Adopted(counts) => write!(f, "yes {counts}"),
+            Done::Written(bytes) => write!(f, "{bytes} bytes"),
         }
     }
 }
 
+// What a call answered, as it is printed.
+#[derive(Clone, Copy)]
+struct Answer(Result<Done, Refusal>);
+
+impl fmt::Display for Answer {
+    fn fmt<W: fmt::Write>(&self, f: &mut fmt::Formatter<W>) -> fmt::Result {
+        match self.0 {
+            Ok(done) => write!(f, "{done}"),
+            Err(refusal) => write!(f, "no {refusal}"),
+        }
+    }
+}
+
+/// A file of so many elements, dimensions and entries was adopted.
+pub fn adopted(elements: usize, dimensions: usize, entries: usize) -> Result<Done, Refusal> {
+    Ok(Done::Adopted(Counts {
+        elements,
+        dimensions,
+        entries,
+    }))
+}
+
 /// The refusal of a layer by a number at a place.
-pub fn refused(layer: u8, number: u8, place: usize) -> Verdict {
-    Verdict::Refused(Refusal {
+pub fn refused<T>(layer: u8, number: u8, place: usize) -> Result<T, Refusal> {
+    Err(Refusal {
         layer,
         number,
         place,
@@ -44,39 +57,40 @@ pub fn refused(layer: u8, number: u8, place: usize) -> Verdict {
 
 /// How many examples were worked, and how many of them differ from what was wanted.
 #[derive(Drop)]
-pub struct Score {
+pub struct Score<'a> {
+    rt: &'a HostRuntime,
     worked: u32,
     differ: u32,
 }
 
-impl fmt::Display for Score {
+impl fmt::Display for Score<'_> {
     fn fmt<W: fmt::Write>(&self, f: &mut fmt::Formatter<W>) -> fmt::Result {
-        let worked = self.worked;
-        let differ = self.differ;
-        write!(f, "{worked} worked, {differ} differ")
+        write!(f, "{} worked, {} differ", self.worked, self.differ)
     }
 }
 
-impl Score {
-    pub fn new() -> Score {
+impl<'a> Score<'a> {
+    /// No example yet; what is said is printed by the runtime.
+    pub fn new(rt: &'a HostRuntime) -> Score<'a> {
         Score {
+            rt,
             worked: 0,
             differ: 0,
         }
     }
 
     /// Says what came out, beside what was wanted.
-    pub fn compare(
+    pub fn compare<F: Into<Refusal>>(
         &mut self,
-        rt: &HostRuntime,
         words: &str,
-        wanted: Verdict,
-        got: Verdict,
+        wanted: Result<Done, Refusal>,
+        got: Result<Done, F>,
     ) -> io::Result<()> {
+        let got = got.map_err(|fault| fault.into());
         self.worked = self.worked.saturating_add(1);
         if got != wanted {
             self.differ = self.differ.saturating_add(1);
         }
-        println!(rt; "  {words}: wanted {wanted}, got {got}")
+        println!(self.rt; "  {words}: wanted {}, got {}", Answer(wanted), Answer(got))
     }
 }

@@ -1,40 +1,44 @@
 -- Adopting a file: what is refused, and what is put in place.
-use Rattle.std.proofs.Common.{◌≡◌, ℕ, false, List, is_some, Some, None, Ok, Err, Result, sym, ap, ◌∙◌, subst, ap₂}
+use Rattle.std.proofs.Common.{◌≡◌, ℕ, List, Some, None, Ok, Err, Result, sym, ap, ◌∙◌, ap₂}
 use Rattle.graph.specs.Rows.{or_else, first_refusal, answered, told}
 use Rattle.graph.specs.declared.dimension.Dimension.{Dimension}
 use Rattle.graph.specs.declared.refusal.Refusal.{Refusal}
-use Rattle.graph.proofs.Reading.{refusal_append}
+use Rattle.graph.proofs.Reading.{refusal_append, refusing}
 use Rattle.graph.proofs.Told.{answered_ok, answered_err}
 use Rattle.plan.specs.Entries.{steps}
 use Rattle.plan.specs.Check.{check_answer}
 use Rattle.plan.specs.PlanFaults.{plan_refusal}
 use Rattle.plan.specs.declared.entry.Entry.{Entry}
 use Rattle.plan.specs.declared.faults.PlanFault.{PlanFault}
-use Rattle.file.specs.Contents.{Within, contents, stored}
+use Rattle.file.specs.Contents.{contents, stored}
 use Rattle.file.specs.Files.{file_rows, held, read, stored_answer}
 use Rattle.file.specs.FileFaults.{file_refusal}
 use Rattle.file.specs.declared.faults.FileFault.{FileFault}
 use Rattle.file.specs.declared.tables.Tables.{Tables}
-use Rattle.file.proofs.Storing.{stored_ok, stored_err, stored_long}
-use Rattle.sketch.specs.Keeping.{contents_rows, refused, Kept}
-use Rattle.sketch.specs.Sketches.{adopt_rows, counted, adopt_answer, tables_after, adopt_after}
+use Rattle.file.proofs.Storing.{stored_ok, stored_err}
+use Rattle.sketch.specs.Keeping.{contents_rows}
+use Rattle.sketch.specs.Sketches.{adopt_rows, counted, adopt_answer, tables_after, adopt_after, Adopting}
+use Rattle.sketch.specs.declared.counts.Counts.{Counts}
 
--- check of the fronts of tables is check of their contents
-pub check_fronts : (t : Tables) (ks : List ℕ) (ds : List Dimension) (es : List Entry) (a : Result ℕ Refusal)
+-- check of what tables hold is check of their contents
+pub check_tables : (t : Tables) (ks : List ℕ) (ds : List Dimension) (es : List Entry) (a : Result ℕ Refusal)
     → ks ≡ (contents t).kinds → ds ≡ (contents t).dimensions → es ≡ (contents t).plan → a ≡ check_answer ks ds es
     → a ≡ answered (first_refusal (contents_rows (contents t))) (steps (contents t).plan)
-check_fronts t ks ds es a p q r e = e ∙ (λ i. check_answer (p i) (q i) (r i))
+check_tables t ks ds es a p q r e = e ∙ (λ i. check_answer (p i) (q i) (r i))
 
 module _ (bs : List ℕ) where
   parts : first_refusal (adopt_rows bs) ≡ or_else (first_refusal (file_rows bs)) (first_refusal (contents_rows (held bs)))
   parts = refusal_append (file_rows bs) (contents_rows (held bs))
 
   -- what a refusal answers and leaves
-  pub refused_answer : (x : Refusal) → first_refusal (adopt_rows bs) ≡ Some x → (Err x ≡ adopt_answer bs) × ((t : Tables) → t ≡ adopt_after bs t)
-  refused_answer x e = (
-    sym (ap (λ o. answered o (counted (held bs))) e),
-    λ t. sym (ap (λ o. tables_after (answered o (held bs)) t) e),
-  )
+  pub refused_says : (r : Result Counts Refusal) (x : Refusal) → r ≡ Err x → first_refusal (adopt_rows bs) ≡ Some x
+      → (r ≡ adopt_answer bs) × ((t : Tables) → t ≡ adopt_after bs t) × Adopting bs r
+  refused_says r x is e =
+      let answer : r ≡ adopt_answer bs = is ∙ sym (ap (λ o. answered o (counted (held bs))) e) in (
+        answer,
+        λ t. sym (ap (λ o. tables_after (answered o (held bs)) t) e),
+        refusing (adopt_rows bs) (counted (held bs)) r answer,
+      )
 
   -- the file's rows refuse
   pub file_refused : (f : FileFault) → told {X = Tables} file_refusal (Err f) ≡ stored_answer (read bs) → first_refusal (adopt_rows bs) ≡ Some (file_refusal f)
@@ -67,19 +71,12 @@ module _ (bs : List ℕ) where
       none = (answered_ok (first_refusal (contents_rows (contents t))) (steps (contents t).plan) k (sym a)).0
 
       -- check accepts: the answer, and what is put in place
-      pub accepted_answer : Ok (t.counts.elements, t.counts.dimensions, t.counts.entries) ≡ adopt_answer bs
-      accepted_answer =
-          ap (λ (u : Tables). Ok (u.counts.elements, u.counts.dimensions, u.counts.entries)) is_read.2
-          ∙ sym (ap₂ (λ o c. answered o (counted c)) (behind_file ∙ none) is_read.1)
-
-      pub accepted_after : (was : Tables) → t ≡ adopt_after bs was
-      accepted_after was =
-          is_read.2 ∙ sym (ap₂ (λ o c. tables_after (answered o c) was) (behind_file ∙ none) is_read.1)
-
-      pub accepted_kept : Within (contents t) → Kept t
-      accepted_kept w =
-          let long = stored_long (contents t) w in
-          subst Kept (sym is_read.2) (long, (w.few_kinds, w.few_dimensions, w.few_entries), same)
-        where
-          same : refused (contents (stored (contents t))) ≡ false
-          same = subst (λ u. refused (contents u) ≡ false) is_read.2 (ap is_some none)
+      pub accepted_says : (was : Tables) (counts : Counts) → counts ≡ counted (contents t)
+          → (Ok counts ≡ adopt_answer bs) × (t ≡ adopt_after bs was) × Adopting bs (Ok counts)
+      accepted_says was counts same =
+          let clear = behind_file ∙ none in
+          let answer : Ok counts ≡ adopt_answer bs = ap Ok same ∙ sym (ap₂ (λ o c. answered o (counted c)) clear is_read.1) in (
+            answer,
+            is_read.2 ∙ sym (ap₂ (λ o c. tables_after (answered o c) was) clear is_read.1),
+            refusing (adopt_rows bs) (counted (held bs)) _ answer,
+          )

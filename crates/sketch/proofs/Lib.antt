@@ -2,7 +2,5 @@
 pub mod Accepting
 -- adopting a file
 pub mod Adopting
--- the length that is answered lies within the buffer
-pub mod Fitting
 -- one file for each sketch
 pub mod Filing

@@ -7,7 +7,5 @@ pub mod Buffers
 pub mod Keeping
 -- the calls on a sketch
 pub mod Sketches
--- a line that is built piece by piece
-pub mod Lines
 -- the line that tells an outcome
 pub mod Reports

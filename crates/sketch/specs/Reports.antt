@@ -2,6 +2,8 @@
 use Rattle.std.specs.Prelude.{◌≡◌, ℕ, List, ◌++◌, Ok, Err, codes, decimal, Result}
 use Rattle.graph.specs.Rows.{refusal}
 use Rattle.graph.specs.declared.refusal.Refusal.{Refusal}
+use Rattle.sketch.specs.Sketches.{counting}
+use Rattle.sketch.specs.declared.counts.Counts.{Counts}
 
 -- a word, then three numbers in decimal with a space between two, and a line feed
 abbrev pub line_of : List ℕ → ℕ × ℕ × ℕ → List ℕ
@@ -9,10 +11,10 @@ line_of word numbers =
     word ++ decimal numbers.0 ++ codes " " ++ decimal numbers.1 ++ codes " " ++ decimal numbers.2 ++ codes "\n"
 
 -- elements, dimensions and entries of what was accepted; or layer, number and place of the refusal
-abbrev pub line : Result (ℕ × ℕ × ℕ) Refusal → List ℕ
-line (Ok counts) = line_of (codes "yes ") counts
+abbrev pub line : Result Counts Refusal → List ℕ
+line (Ok c) = line_of (codes "yes ") (c.elements, c.dimensions, c.entries)
 line (Err f) = line_of (codes "no ") (f.layer, f.number, f.place)
 
 -- two outcomes and their lines
 abbrev pub ReportExamples : Type 0
-ReportExamples = (line (Ok (2, 1, 1)) ≡ codes "yes 2 1 1\n") × (line (Err (refusal 1 6 11)) ≡ codes "no 1 6 11\n")
+ReportExamples = (line (Ok (counting 2 1 1)) ≡ codes "yes 2 1 1\n") × (line (Err (refusal 1 6 11)) ≡ codes "no 1 6 11\n")

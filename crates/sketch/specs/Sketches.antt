@@ -8,6 +8,7 @@ use Rattle.file.specs.Contents.{Contents, holding, contents, stored}
 use Rattle.file.specs.Files.{Bytes, file_rows, held, write}
 use Rattle.file.specs.declared.tables.Tables.{Tables}
 use Rattle.sketch.specs.Keeping.{contents_rows}
+use Rattle.sketch.specs.declared.counts.Counts.{Counts}
 use Rattle.sketch.specs.declared.sketch.Sketch.{Sketch}
 
 -- a newly made sketch: two points, one dimension of grade 0, a plan of one leaf
@@ -26,12 +27,16 @@ adopt_rows bs = file_rows bs ++ contents_rows (held bs)
 abbrev pub adopted : List ℕ → Result Contents Refusal
 adopted bs = answered (first_refusal (adopt_rows bs)) (held bs)
 
+-- counts from their three numbers
+abbrev pub counting : ℕ → ℕ → ℕ → Counts
+counting n d e = record { elements = n; dimensions = d; entries = e }
+
 -- how many elements, dimensions and entries there are
-abbrev pub counted : Contents → ℕ × ℕ × ℕ
-counted c = (length c.kinds, length c.dimensions, length c.plan)
+abbrev pub counted : Contents → Counts
+counted c = counting (length c.kinds) (length c.dimensions) (length c.plan)
 
 -- what adopt answers
-abbrev pub adopt_answer : List ℕ → Result (ℕ × ℕ × ℕ) Refusal
+abbrev pub adopt_answer : List ℕ → Result Counts Refusal
 adopt_answer bs = answered (first_refusal (adopt_rows bs)) (counted (held bs))
 
 -- the tables of contents that were adopted, or else the tables as they were
@@ -44,7 +49,7 @@ abbrev pub adopt_after : List ℕ → Tables → Tables
 adopt_after bs t = tables_after (adopted bs) t
 
 -- the answer is a refusal exactly when a row holds at its place, at no lower one, and no earlier row holds anywhere
-abbrev pub Adopting : List ℕ → Result (ℕ × ℕ × ℕ) Refusal → Type 0
+abbrev pub Adopting : List ℕ → Result Counts Refusal → Type 0
 Adopting bs r = (x : Refusal) → (r ≡ Err x) ↔ Refuses (adopt_rows bs) x
 
 -- contents have exactly one file: adopting it gives them back, and no other bytes do

@@ -8,7 +8,7 @@ use graph::refusal::Refusal;
 use plan::faults::PlanFault;
 
 /// What is wrong with what a call was handed, or with the room for its answer.
-#[derive(Clone, Copy)]
+#[derive(Clone, Copy, PartialEq, Eq, Debug)]
 pub enum SketchFault {
     /// The bytes are no file.
     File(FileFault),
@@ -18,14 +18,13 @@ pub enum SketchFault {
     ShortBuffer { needed: usize },
 }
 
-impl SketchFault {
-    /// The fault in numbers.
-    pub fn refusal(self) -> Refusal
-        ensures { result ≡ sketch_refusal self }
-    {
-        match self {
-            SketchFault::File(fault) => fault.refusal(),
-            SketchFault::Plan(fault) => fault.refusal(),
+impl From<SketchFault> for Refusal {
+    ghost from_gives = { λ fault told. told ≡ sketch_refusal fault };
+
+    fn from(fault: SketchFault) -> Refusal {
+        match fault {
+            SketchFault::File(fault) => Refusal::from(fault),
+            SketchFault::Plan(fault) => Refusal::from(fault),
             SketchFault::ShortBuffer { needed } => Refusal {
                 layer: 4,
                 number: 26,
@@ -35,6 +34,7 @@ impl SketchFault {
     }
 }
 
+// These two by hand, so that a clause can say which fault comes through a `?`.
 impl From<FileFault> for SketchFault {
     ghost from_gives = { λ f s. s ≡ File f };
 

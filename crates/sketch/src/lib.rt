@@ -3,7 +3,7 @@
 #![tactic(auto)]
 
 mod buffer;
+pub mod counts;
 pub mod faults;
-mod line;
 pub mod report;
 pub mod sketch;

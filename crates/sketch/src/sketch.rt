@@ -1,5 +1,6 @@
 //! A sketch: its tables, and the promise that they hold a list with an accepted plan.
-ghost use Rattle.sketch.specs.Keeping.{Kept};
+ghost use Rattle.file.specs.Contents.{contents};
+ghost use Rattle.sketch.specs.Keeping.{Accepted};
 
 use file::tables::Tables;
 
@@ -7,7 +8,7 @@ use file::tables::Tables;
 #[derive(Drop)]
 pub struct Sketch {
     tables: Tables,
-    ghost kept: { Kept tables },
+    ghost kept: { Accepted (contents tables) },
 }
 
 pub mod calls;

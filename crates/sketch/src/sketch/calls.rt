@@ -1,5 +1,5 @@
 //! Making, reading, saving and replacing a sketch.
-ghost use Rattle.std.specs.Prelude.{◌≡◌, ◌≤◌, true, length, take, is_ok, OnErr, OnOk};
+ghost use Rattle.std.specs.Prelude.{◌≡◌, ◌≤◌, true, length, is_ok, IfOk, OnErr, OnOk};
 ghost use Rattle.graph.specs.Rows.{told};
 ghost use Rattle.file.specs.Contents.{contents, stored};
 ghost use Rattle.file.specs.FileLimits.{most_bytes};
@@ -9,62 +9,59 @@ ghost use Rattle.sketch.specs.Keeping.{Accepted};
 ghost use Rattle.sketch.specs.Sketches.{first_contents, sketch_file, adopt_answer, adopt_after, Adopting, OneFile};
 
 use crate::buffer::put;
+use crate::counts::Counts;
 use crate::faults::SketchFault;
 use crate::sketch::Sketch;
+use arrayvec::ArrayVec;
 use file::decode::decode;
 use file::encode::encode;
 use file::parts::FileParts;
-use file::tables::{Counts, Tables};
+use file::tables::Tables;
 use graph::dimension::Dimension;
-use graph::limits::{MOST_DIMENSIONS, MOST_ELEMENTS, MOST_ENTRIES};
+use graph::list::PlateList;
 use plan::check::check;
 use plan::entry::Entry;
-
-// The places of a table that are in use.
-fn front<T>(table: &[T], count: usize) -> &[T]
-    requires { count ≤ length table.now }
-    ensures { result.now ≡ take count table.now }
-{
-    &table[0..count]
-}
 
 impl Sketch {
     /// Two points with a dimension of grade 0 between them, and a plan of one leaf.
     pub fn new() -> Sketch
         ensures { result.tables ≡ stored first_contents }
     {
-        let unused = Dimension {
-            lower: 0,
-            higher: 0,
-            grade: 0,
-        };
-        let mut dimensions = [unused; MOST_DIMENSIONS];
-        dimensions[0].higher = 1;
+        let mut kinds = ArrayVec::new();
+        kinds.push(0);
+        kinds.push(0);
+        let mut dimensions = ArrayVec::new();
+        dimensions.push(Dimension::plain(0, 1));
+        let mut plan = ArrayVec::new();
+        plan.push(Entry::Leaf { place: 0 });
         let tables = Tables {
-            kinds: [0; MOST_ELEMENTS],
+            kinds,
             dimensions,
-            plan: [Entry::Leaf { place: 0 }; MOST_ENTRIES],
-            counts: Counts {
-                elements: 2,
-                dimensions: 1,
-                entries: 1,
-            },
+            plan,
         };
         Sketch { tables }
     }
 
-    /// The kind of each element.
+    /// The kind of each element, as a list takes it.
     pub fn kinds(&self) -> &[u8]
         ensures { result.now ≡ (contents self.now.tables).kinds }
     {
-        front(&self.tables.kinds, self.tables.counts.elements)
+        self.tables.kinds.as_slice()
     }
 
     /// The dimensions in their order.
     pub fn dimensions(&self) -> &[Dimension]
         ensures { result.now ≡ (contents self.now.tables).dimensions }
     {
-        front(&self.tables.dimensions, self.tables.counts.dimensions)
+        self.tables.dimensions.as_slice()
+    }
+
+    /// Both: the sketch's list.
+    pub fn list(&self) -> PlateList<'_>
+        ensures kinds { result.kinds.now ≡ (contents self.now.tables).kinds }
+        ensures dimensions { result.dimensions.now ≡ (contents self.now.tables).dimensions }
+    {
+        self.tables.list()
     }
 
     /// The entries of the plan in their order: a plan that check accepts for the sketch's list.
@@ -72,12 +69,12 @@ impl Sketch {
         ensures value { result.now ≡ (contents self.now.tables).plan }
         ensures accepted { Accepted (contents self.now.tables) }
     {
-        front(&self.tables.plan, self.tables.counts.entries)
+        self.tables.plan.as_slice()
     }
 
     /// Reads a file and puts its list and plan in place of the sketch's, if check accepts them. Answers how many elements,
     /// dimensions and entries there are. On refusal the sketch stays as it was.
-    pub fn adopt(&mut self, bytes: &[u8]) -> Result<(usize, usize, usize), SketchFault>
+    pub fn adopt(&mut self, bytes: &[u8]) -> Result<Counts, SketchFault>
         ensures answer { told sketch_refusal result ≡ adopt_answer bytes.now }
         ensures after { self.new.tables ≡ adopt_after bytes.now self.old.tables }
         ensures refused { OnErr result (self.new ≡ self.old) }
@@ -85,32 +82,29 @@ impl Sketch {
         ensures file { OnOk result (sketch_file self.new ≡ bytes.now) }
     {
         let tables = decode(bytes)?;
-        let Counts {
-            elements,
-            dimensions,
-            entries,
-        } = tables.counts;
-        let kinds = front(&tables.kinds, elements);
-        let plan = front(&tables.plan, entries);
-        check(kinds, front(&tables.dimensions, dimensions), plan)?;
+        check(tables.list(), tables.plan.as_slice())?;
+        let counts = Counts {
+            elements: tables.kinds.len(),
+            dimensions: tables.dimensions.len(),
+            entries: tables.plan.len(),
+        };
         self.tables = tables;
-        Ok((elements, dimensions, entries))
+        Ok(counts)
     }
 
-    /// Writes the sketch's file at the start of the buffer, leaves the rest, and answers the file's length. A buffer that is too
-    /// short is refused with the bytes needed, and stays as it was; one of `MOST_BYTES` places never is.
+    /// Writes the sketch's file at the start of the buffer that the caller lends, leaves the rest, and answers the file's length. A
+    /// buffer that is too short is refused with the bytes needed, and stays as it was; one of `MOST_BYTES` places never is.
     pub fn save(&self, buffer: &mut [u8]) -> Result<usize, SketchFault>
         ensures answer { told sketch_refusal result ≡ put_answer (sketch_file self.now) buffer.old }
+        ensures within { IfOk result (λ n. n ≤ length buffer.old) }
         ensures after { buffer.new ≡ put_after (sketch_file self.now) buffer.old }
         ensures room { most_bytes ≤ length buffer.old → is_ok result ≡ true }
         ensures file { OneFile (contents self.now.tables) }
     {
         let parts = FileParts {
-            kinds: self.kinds(),
-            dimensions: self.dimensions(),
-            entries: self.plan(),
+            list: self.list(),
+            plan: self.plan(),
         };
-        let file = encode(parts);
-        put(file.as_slice(), buffer)
+        put(encode(parts).as_slice(), buffer)
     }
 }

@@ -1,11 +1,9 @@
-use Rattle.std.proofs.Common.{◌≡◌, Ok, refl}
+use Rattle.std.proofs.Common.{Ok, refl}
 use Rattle.std.proofs.lemmas.Result.{err_from_is_err_and}
 use Rattle.graph.specs.Rows.{told}
-use Rattle.graph.proofs.Reading.{refusing}
-use Rattle.file.specs.Files.{held}
+use Rattle.sketch.specs.Sketches.{counting}
 use Rattle.sketch.specs.SketchFaults.{sketch_refusal}
-use Rattle.sketch.specs.Sketches.{adopt_rows, adopt_answer, counted}
-use Rattle.sketch.proofs.Adopting.{file_refused, check_fronts, check_refused, refused_answer, accepted_answer, accepted_after, accepted_kept}
+use Rattle.sketch.proofs.Adopting.{file_refused, check_tables, check_refused, refused_says, accepted_says}
 use Rattle.sketch.proofs.sketch.Sketch.adopt.Goals as goal
 
 pub returns-in_err-tables : goal.returns-in_err-tables
@@ -13,13 +11,12 @@ returns-in_err-tables c =
     let bs = c.args.bytes.now in
     let r = c.from_residual.result in
     let is = err_from_is_err_and r c.from_residual.ensures.1 in
-    let says = refused_answer bs _ (file_refused bs _ c.in_err-tables.ensures.answer) in
-    let answer : told sketch_refusal r ≡ adopt_answer bs = rw (is.1, is.2) says.0 in
+    let says = refused_says bs (told sketch_refusal r) _ (rw (is.1, is.2)) (file_refused bs _ c.in_err-tables.ensures.answer) in
     record {
-      answer = answer;
+      answer = says.0;
       after = says.1 _;
       refused = rw is.1 refl;
-      refuses = refusing (adopt_rows bs) (counted (held bs)) _ answer;
+      refuses = says.2;
       file = rw is.1 tt;
     }
 
@@ -29,35 +26,28 @@ returns-in_err-check c =
     let t = c.in_ok-tables.tables in
     let r = c.from_residual-in_err-check.result in
     let is = err_from_is_err_and r c.from_residual-in_err-check.ensures.1 in
-    let checked = check_fronts t _ _ _ _ c.front-kinds.ensures c.front.ensures c.front-plan.ensures c.in_err-check.ensures.answer in
-    let says = refused_answer bs _ (check_refused bs t c.in_ok-tables.ensures.answer c.in_err-check.field-0.0 checked) in
-    let answer : told sketch_refusal r ≡ adopt_answer bs = rw (is.1, is.2) says.0 in
+    let checked = check_tables t _ _ _ _ c.list.ensures.kinds c.list.ensures.dimensions c.as_slice.ensures.value c.in_err-check.ensures.answer in
+    let says = refused_says bs (told sketch_refusal r) _ (rw (is.1, is.2)) (check_refused bs t c.in_ok-tables.ensures.answer _ checked) in
     record {
-      answer = answer;
+      answer = says.0;
       after = says.1 _;
       refused = rw is.1 refl;
-      refuses = refusing (adopt_rows bs) (counted (held bs)) _ answer;
+      refuses = says.2;
       file = rw is.1 tt;
     }
-
-pub invariant_of-self : goal.invariant_of-self
-invariant_of-self c =
-    let t = c.in_ok-tables.tables in
-    let was_read = c.in_ok-tables.ensures in
-    let checked = check_fronts t _ _ _ (Ok c.in_ok-check.field-0) c.front-kinds.ensures c.front.ensures c.front-plan.ensures c.in_ok-check.ensures.answer in
-    record { kept = accepted_kept c.args.bytes.now t was_read.answer _ checked was_read.within }
 
 pub returns : goal.returns
 returns c =
     let bs = c.args.bytes.now in
     let t = c.in_ok-tables.tables in
     let was_read = c.in_ok-tables.ensures in
-    let checked = check_fronts t _ _ _ (Ok c.in_ok-check.field-0) c.front-kinds.ensures c.front.ensures c.front-plan.ensures c.in_ok-check.ensures.answer in
-    let answer = accepted_answer bs t was_read.answer _ checked in
+    let checked = check_tables t _ _ _ (Ok c.in_ok-check.field-0) c.list.ensures.kinds c.list.ensures.dimensions c.as_slice.ensures.value c.in_ok-check.ensures.answer in
+    let says = accepted_says bs t was_read.answer _ checked c.args.self.now.tables _
+    (λ i. counting (c.len.ensures.value i) (c.len-2.ensures.value i) (c.len-3.ensures.value i)) in
     record {
-      answer = answer;
-      after = accepted_after bs t was_read.answer _ checked _;
+      answer = says.0;
+      after = says.1;
       refused = tt;
-      refuses = refusing (adopt_rows bs) (counted (held bs)) _ answer;
+      refuses = says.2;
       file = was_read.inverse;
     }
