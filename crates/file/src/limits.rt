@@ -1,4 +1,4 @@
-//! How large the tables in a file may be.
+//! How large the tables in a file may be. These are the limits of the version, and may part from what the program holds.
 
 /// The first byte of every file.
 pub const VERSION: u8 = 1;

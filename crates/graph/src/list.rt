@@ -79,7 +79,8 @@ impl<'a> PlateList<'a> {
         (0..self.dimensions.len()).find(|&at| self.repeats(at))
     }
 
-    // The first row that holds.
+    // The first row that holds. Each row makes a fault of its own, so a function for the five would be no shorter. `judge` adds what the
+    // answer means.
     fn first_fault(self) -> Result<(), ListFault>
         ensures { told list_refusal result ≡ answered (first_refusal (list_rows self.entry.kinds.now self.entry.dimensions.now)) tt }
     {

@@ -60,7 +60,8 @@ fn steps(plan: &[Entry]) -> usize
     plan.iter().filter(|entry| entry.is_step()).count()
 }
 
-// The rows of the plan alone, or else its number of steps.
+// The rows of the plan alone, or else its number of steps. Each row makes a fault of its own, so a function for all of them would be no
+// shorter.
 fn judge_plan(lawful: LawfulList<'_>, plan: &[Entry]) -> Result<usize, PlanFault>
     ensures { told plan_refusal result ≡ answered (first_refusal (plan_rows lawful.entry.list.kinds.now lawful.entry.list.dimensions.now plan.now)) (steps plan.now) }
 {

@@ -52,8 +52,8 @@ fn stands(lawful: LawfulList<'_>, plan: &[Entry]) -> bool
 
 /// Looks for a plan of a list by the merging rule. Where there is one it fills the front of the table with the rule's plan, leaves
 /// the places behind it alone, and answers how many entries it has. It refuses by the first row of the list or the table that holds,
-/// and with 19 exactly where check accepts no plan whatever for the list; then the table is as it was. The caller lends the table, so
-/// that there is no heap.
+/// and with 19 exactly where check accepts no plan whatever for the list; then the table is as it was. The caller lends the table: of
+/// it refusal 18 and the clauses speak.
 pub fn merge(list: PlateList<'_>, table: &mut [Entry]) -> Result<usize, PlanFault>
     ensures refuses { MergeRefusing list.entry.kinds.now list.entry.dimensions.now (length table.old) (told plan_refusal result) }
     ensures answers { MergeAnswering list.entry.kinds.now list.entry.dimensions.now (length table.old) result }

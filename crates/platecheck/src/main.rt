@@ -8,7 +8,7 @@ use sketch::sketch::Sketch;
 use std::io;
 use std::io::{Read, Write};
 
-// No file is longer; of longer input only this much is read.
+// No file is longer; of longer input only this much is read. As a `u64` it is the same number; `From` has no such conversion.
 const MOST_INPUT: usize = 4096;
 
 fn main(rt: HostRuntime) -> io::Result<()> {

@@ -17,6 +17,7 @@ pub fn largest_file() -> [u8; MOST_BYTES] {
     file[70] = 1;
     let (dimensions, _) = file[72..444].as_chunks_mut::<3>();
     let (joins, _) = dimensions.as_chunks_mut::<2>();
+    // There are 62 later points, so their numbers fit a byte.
     for (i, join) in joins.iter_mut().enumerate() {
         let near = i as u8;
         *join = [[near, near + 2, 0], [near + 1, near + 2, 0]];
@@ -59,7 +60,7 @@ pub fn work(score: &mut Score<'_>) -> io::Result<()> {
         written(1193),
         saved(&file, &mut again),
     )?;
-    // The line printed has a number of bytes, so a difference is told as none.
+    // The line printed has a number of bytes, so a difference is told as none; and so below.
     let same = if again == file { 1193 } else { 0 };
     score.compare("the same bytes", written(1193), written(same))?;
     let mut short = [7; 1192];

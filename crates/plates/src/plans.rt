@@ -32,6 +32,19 @@ pub fn braced_square() -> [Dimension; 5] {
     ]
 }
 
+fn triangle() -> [Dimension; 3] {
+    [
+        Dimension::plain(0, 1),
+        Dimension::plain(0, 2),
+        Dimension::plain(1, 2),
+    ]
+}
+
+// A leaf of each of three dimensions, and the step that joins them.
+fn three_joined() -> [Entry; 4] {
+    [leaf(0), leaf(1), leaf(2), step(0, 1, 2)]
+}
+
 fn leaves_and(first: Entry, second: Entry) -> [Entry; 7] {
     [leaf(0), leaf(1), leaf(2), leaf(3), leaf(4), first, second]
 }
@@ -40,16 +53,10 @@ fn leaves_and(first: Entry, second: Entry) -> [Entry; 7] {
 fn work_accepted(score: &mut Score<'_>) -> io::Result<()> {
     let one = checked(&[0, 1], &[Dimension::plain(0, 1)], &[leaf(0)]);
     score.compare("a point and a line", Ok(Done::Steps(0)), one)?;
-    let triangle = [
-        Dimension::plain(0, 1),
-        Dimension::plain(0, 2),
-        Dimension::plain(1, 2),
-    ];
-    let joined = [leaf(0), leaf(1), leaf(2), step(0, 1, 2)];
     score.compare(
         "a triangle",
         Ok(Done::Steps(1)),
-        checked(&[0, 0, 0], &triangle, &joined),
+        checked(&[0, 0, 0], &triangle(), &three_joined()),
     )?;
     let points = [0, 0, 0, 0];
     let near = leaves_and(step(0, 2, 4), step(1, 3, 5));
@@ -98,26 +105,20 @@ fn work_refused(score: &mut Score<'_>) -> io::Result<()> {
         refused(3, 14, 0),
         checked(&two, &one, &[leaf(0), leaf(0)]),
     )?;
-    let triangle = [
-        Dimension::plain(0, 1),
-        Dimension::plain(0, 2),
-        Dimension::plain(1, 2),
-    ];
     score.compare(
         "a triangle, leaf 0 alone",
         refused(3, 15, 1),
-        checked(&[0, 0, 0], &triangle, &[leaf(0)]),
+        checked(&[0, 0, 0], &triangle(), &[leaf(0)]),
     )?;
     let star = [
         Dimension::plain(0, 1),
         Dimension::plain(0, 2),
         Dimension::plain(0, 3),
     ];
-    let joined = [leaf(0), leaf(1), leaf(2), step(0, 1, 2)];
     score.compare(
         "three that meet in one",
         refused(3, 16, 3),
-        checked(&[0, 0, 0, 0], &star, &joined),
+        checked(&[0, 0, 0, 0], &star, &three_joined()),
     )?;
     let path = [
         Dimension::plain(0, 1),
@@ -127,7 +128,7 @@ fn work_refused(score: &mut Score<'_>) -> io::Result<()> {
     score.compare(
         "three in a row",
         refused(3, 16, 3),
-        checked(&[0, 0, 0, 0], &path, &joined),
+        checked(&[0, 0, 0, 0], &path, &three_joined()),
     )?;
     score.compare(
         "three elements, only 0-1",

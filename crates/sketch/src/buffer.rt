@@ -1,4 +1,5 @@
-//! A caller's buffer, which takes a text whole or is left alone. The caller lends it, so that there is no heap.
+//! A caller's buffer, which takes a text whole or is left alone. It is lent and not handed out, since of it refusal 26 and the clauses
+//! speak.
 ghost use Rattle.std.specs.Prelude.{◌≡◌, ◌≤◌, length, IfOk};
 ghost use Rattle.graph.specs.Rows.{told};
 ghost use Rattle.sketch.specs.SketchFaults.{sketch_refusal};

@@ -18,6 +18,7 @@ pub const LONGEST_LINE: usize = 67;
 /// Writes the outcome at the start of the buffer that the caller lends, as one line: `yes ELEMENTS DIMENSIONS ENTRIES`, or
 /// `no LAYER NUMBER PLACE` of the refusal, in decimal.
 /// A buffer that is too short for the line is refused with the bytes needed, and stays as it was; one of `LONGEST_LINE` places never is.
+/// The buffer is lent, as with `save`.
 pub fn report(outcome: Result<Counts, SketchFault>, buffer: &mut [u8]) -> Result<usize, SketchFault>
     ensures answer { told sketch_refusal result ≡ put_answer (line (told sketch_refusal outcome)) buffer.old }
     ensures within { IfOk result (λ n. n ≤ length buffer.old) }
@@ -42,7 +43,8 @@ fn line(outcome: Result<Counts, SketchFault>) -> ArrayString<LONGEST_LINE>
     }
 }
 
-// The line of a word and three numbers. Not by `write!`: it says what it wrote, but not that it succeeds where there is room.
+// The line of a word and three numbers, which are either counts or a refusal: the line is the same. Not by `write!`: it says what it
+// wrote, but not that it succeeds where there is room.
 fn line_of(word: &str, numbers: (usize, usize, usize)) -> ArrayString<LONGEST_LINE>
     requires { length word.now ≤ 4 }
     ensures { result.bytes ≡ line_of word.now numbers }

@@ -42,7 +42,7 @@ impl Sketch {
         Sketch { tables }
     }
 
-    /// The kind of each element, as a list takes it.
+    /// The kind of each element, a byte as handed in: a table of `Kind` would be a second one.
     pub fn kinds(&self) -> &[u8]
         ensures { result.now ≡ (contents self.now.tables).kinds }
     {
@@ -94,6 +94,7 @@ impl Sketch {
 
     /// Writes the sketch's file at the start of the buffer that the caller lends, leaves the rest, and answers the file's length. A
     /// buffer that is too short is refused with the bytes needed, and stays as it was; one of `MOST_BYTES` places never is.
+    /// The buffer is lent and not handed out: of it refusal 26 and the clauses speak.
     pub fn save(&self, buffer: &mut [u8]) -> Result<usize, SketchFault>
         ensures answer { told sketch_refusal result ≡ put_answer (sketch_file self.now) buffer.old }
         ensures within { IfOk result (λ n. n ≤ length buffer.old) }
