@@ -88,13 +88,14 @@ module _ {X : Type 0} {w : ℕ} {put : X → List ℕ} {get : List ℕ → X} (l
       sym (laws.front (take (w + w * n) bs)) ∙ ap get (take-take w (w + w * n) bs (omega arith)) ∙ laws.front bs in
       rw (s, first, drop-take, get_all_front n (drop w bs))
 
-  -- a table is read from its bytes, m of them
-  pub table_read : (bs : List ℕ) (p n m : ℕ) (xs : List X)
-      → ((k : ℕ) → length (take m (drop p bs)) ≡ w * k → xs ≡ get_all get w k (take m (drop p bs)))
-      → m ≡ w * n → p + m ≤ length bs → xs ≡ get_all get w n (drop p bs)
-  table_read bs p n m xs said e h =
-      said n (length-take-le m (drop p bs) (rw length-drop (omega arith)) ∙ e)
-      ∙ ap (λ j. get_all get w n (take j (drop p bs))) e ∙ get_all_front n (drop p bs)
+  -- a table is read from its bytes, m of them, to the front of another
+  pub table_read : (bs : List ℕ) (p n m : ℕ) (xs old : List X)
+      → ((k : ℕ) → length (take m (drop p bs)) ≡ w * k → xs ≡ get_all get w k (take m (drop p bs)) ++ drop k old)
+      → m ≡ w * n → p + m ≤ length bs → xs ≡ get_all get w n (drop p bs) ++ drop n old
+  table_read bs p n m xs old said e h =
+      let bytes : get_all get w n (take m (drop p bs)) ≡ get_all get w n (drop p bs) =
+      ap (λ j. get_all get w n (take j (drop p bs))) e ∙ get_all_front n (drop p bs) in
+      said n (length-take-le m (drop p bs) (rw length-drop (omega arith)) ∙ e) ∙ ap (λ l. l ++ drop n old) bytes
 
 module _ {X : Type 0} (put : X → List ℕ) (get : List ℕ → X) (w : ℕ) where
   -- what is read was written, where each value passes

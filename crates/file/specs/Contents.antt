@@ -1,5 +1,7 @@
 -- What a file holds: a list and its plan.
-use Rattle.std.specs.Prelude.{ℕ, ◌<◌, ◌≤◌, max, List, length, slice_index_or}
+use Rattle.std.specs.Prelude.{ℕ, ◌-◌, ◌<◌, ◌≤◌, max, List, ◌++◌, length, take, replicate, slice_index_or}
+use Rattle.graph.specs.Limits.{most_elements, most_dimensions, most_entries}
+use Rattle.graph.specs.Lists.{dimension}
 use Rattle.graph.specs.declared.dimension.Dimension.{Dimension}
 use Rattle.plan.specs.declared.entry.Entry.{Entry}
 use Rattle.plan.specs.declared.entry.Entry.TheVariants.{Leaf, Step}
@@ -32,14 +34,23 @@ pub record Within (c : Contents) : Type 0 where
 
 -- tables, and what they hold
 
--- the items of the three tables
+-- the values in use, at the front of each array
 abbrev pub contents : Tables → Contents
-contents t = holding t.kinds.items t.dimensions.items t.plan.items
+contents t =
+    holding
+    (take t.counts.elements t.kinds)
+    (take t.counts.dimensions t.dimensions)
+    (take t.counts.entries t.plan)
+
+-- xs at the front of n places, the others unused
+abbrev pub padded : {X : Type 0} → ℕ → X → List X → List X
+padded n unused xs = xs ++ replicate (n - length xs) unused
 
 -- contents as tables
 abbrev pub stored : Contents → Tables
 stored c = record {
-  kinds = record { items = c.kinds };
-  dimensions = record { items = c.dimensions };
-  plan = record { items = c.plan };
+  kinds = padded most_elements 0 c.kinds;
+  dimensions = padded most_dimensions (dimension 0 0 0) c.dimensions;
+  plan = padded most_entries (Leaf 0) c.plan;
+  counts = record { elements = length c.kinds; dimensions = length c.dimensions; entries = length c.plan };
 }

@@ -1,4 +1,6 @@
-//! How large the tables in a file may be. These are the limits of the version, and may part from what the program holds.
+//! How large the tables in a file may be. These are the limits of the version, and may part from what the program holds. Each stands
+//! here and, for the promises, in specs/FileLimits.antt.
+ghost use Rattle.file.specs.FileLimits.{FileLimitsLaw};
 
 /// The first byte of every file.
 pub const VERSION: u8 = 1;
@@ -16,3 +18,8 @@ pub const MOST_FILE_ENTRIES: u8 = 187;
 pub const BYTE_VALUES: usize = 256;
 /// The largest file: version, length, three counts, 64 kinds, 125 dimensions of 3 bytes and 187 entries of 4.
 pub const MOST_BYTES: usize = 1193;
+
+/// The constants are the numbers that the promises speak of.
+pub fn file_limits_stand()
+    ensures { FileLimitsLaw }
+{}

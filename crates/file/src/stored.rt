@@ -1,5 +1,5 @@
 //! Values that a file stores, all of a type in the same number of bytes.
-ghost use Rattle.std.specs.Prelude.{◌≡◌, ℕ, ◌+◌, ◌*◌, ◌<◌, ◌≤◌, List, ◌∷◌, ◌++◌, length};
+ghost use Rattle.std.specs.Prelude.{◌≡◌, ℕ, ◌+◌, ◌*◌, ◌<◌, ◌≤◌, List, ◌∷◌, ◌++◌, length, drop};
 ghost use Rattle.std.specs.List.{All, flat_map};
 ghost use Rattle.arrayvec.specs.ArrayVec.{array_vec_len};
 ghost use Rattle.file.specs.FileLimits.{most_bytes, byte_values};
@@ -9,7 +9,6 @@ ghost use Rattle.file.specs.Stored.{StoredLaws, kind_bytes, get_kind};
 ghost use Rattle.file.specs.StoredTypes.{kind_laws, dimension_laws, entry_laws};
 
 use crate::encode::FileBytes;
-use arrayvec::ArrayVec;
 use graph::dimension::Dimension;
 use plan::entry::Entry;
 
@@ -157,14 +156,14 @@ pub(crate) fn put_table<T: Stored>(values: &[T], file: &mut FileBytes)
     }
 }
 
-// The values of a table.
-pub(crate) fn get_table<T: Stored, const N: usize>(bytes: &[u8]) -> ArrayVec<T, N>
-    requires { length bytes.now ≤ T.WIDTH * N }
-    ensures { (n : ℕ) → length bytes.now ≡ T.WIDTH * n → result.items ≡ get_all T.read T.WIDTH n bytes.now }
+// Puts the values of these bytes at the front of a table, and leaves the places behind them alone.
+pub(crate) fn get_table<T: Stored>(bytes: &[u8], table: &mut [T])
+    requires { length bytes.now ≤ T.WIDTH * length table.old }
+    ensures { (n : ℕ) → length bytes.now ≡ T.WIDTH * n → table.new ≡ get_all T.read T.WIDTH n bytes.now ++ drop n table.old }
 {
-    let mut values = ArrayVec::new();
+    let mut count = 0;
     for value in bytes.chunks_exact(T::WIDTH) {
-        values.push(T::get(value));
+        table[count] = T::get(value);
+        count += 1;
     }
-    values
 }

@@ -1,4 +1,5 @@
-//! How large a plate may be.
+//! How large a plate may be. Each limit stands here and, for the promises, in specs/Limits.antt.
+ghost use Rattle.graph.specs.Limits.{LimitsLaw};
 
 /// A sketch has at least this many elements.
 pub const FEWEST_ELEMENTS: usize = 2;
@@ -8,3 +9,8 @@ pub const MOST_ELEMENTS: usize = 64;
 pub const MOST_DIMENSIONS: usize = 125;
 /// A plan has at most this many entries: 125 leaves and 62 steps.
 pub const MOST_ENTRIES: usize = 187;
+
+/// The constants are the numbers that the promises speak of.
+pub fn limits_stand()
+    ensures { LimitsLaw }
+{}

@@ -3,6 +3,7 @@ ghost use Rattle.std.specs.Prelude.{◌≡◌, ◌≤◌, true, ◌↔◌, lengt
 ghost use Rattle.graph.specs.Limits.{most_entries};
 ghost use Rattle.graph.specs.Rows.{told};
 ghost use Rattle.graph.specs.Lists.{Lawful};
+ghost use Rattle.plan.specs.PlanRows.{few_places};
 ghost use Rattle.plan.specs.PlanFaults.{plan_refusal};
 ghost use Rattle.plan.specs.Check.{AcceptedPlan};
 ghost use Rattle.plan.specs.Drafts.{Drafted};
@@ -39,6 +40,13 @@ fn merged_table(lawful: LawfulList<'_>) -> ArrayVec<Entry, MOST_ENTRIES>
     draft.plan()
 }
 
+// Whether a table has fewer places than a plan can have entries.
+fn few_places(places: usize) -> bool
+    ensures { result ≡ few_places places 0 }
+{
+    places < MOST_ENTRIES
+}
+
 // Whether the table of the merging rule is a plan: one entry is left that no step names, the last, and it reaches every element.
 fn stands(lawful: LawfulList<'_>, plan: &[Entry]) -> bool
     requires { MergedTable lawful.list.dimensions.now plan.now }
@@ -64,7 +72,7 @@ pub fn merge(list: PlateList<'_>, table: &mut [Entry]) -> Result<usize, PlanFaul
 {
     let lawful = list.lawful()?;
     let places = table.len();
-    if places < MOST_ENTRIES {
+    if few_places(places) {
         return Err(PlanFault::FewPlaces { places });
     }
     let merged = merged_table(lawful);

@@ -1,5 +1,5 @@
 -- Adopting a file: what is refused, and what is put in place.
-use Rattle.std.proofs.Common.{◌≡◌, ℕ, List, Some, None, Ok, Err, Result, sym, ap, ◌∙◌, ap₂}
+use Rattle.std.proofs.Common.{◌≡◌, ℕ, List, Some, None, Ok, Err, Result, sym, ap, ◌∙◌, subst, ap₂}
 use Rattle.graph.specs.Rows.{or_else, first_refusal, answered, told}
 use Rattle.graph.specs.declared.dimension.Dimension.{Dimension}
 use Rattle.graph.specs.declared.refusal.Refusal.{Refusal}
@@ -10,15 +10,15 @@ use Rattle.plan.specs.Check.{check_answer}
 use Rattle.plan.specs.PlanFaults.{plan_refusal}
 use Rattle.plan.specs.declared.entry.Entry.{Entry}
 use Rattle.plan.specs.declared.faults.PlanFault.{PlanFault}
-use Rattle.file.specs.Contents.{contents, stored}
+use Rattle.file.specs.Contents.{Within, contents, stored}
 use Rattle.file.specs.Files.{file_rows, held, read, stored_answer}
 use Rattle.file.specs.FileFaults.{file_refusal}
 use Rattle.file.specs.declared.faults.FileFault.{FileFault}
 use Rattle.file.specs.declared.tables.Tables.{Tables}
-use Rattle.file.proofs.Storing.{stored_ok, stored_err}
-use Rattle.sketch.specs.Keeping.{contents_rows}
+use Rattle.file.proofs.Storing.{stored_ok, stored_err, stored_long}
+use Rattle.sketch.specs.Keeping.{contents_rows, Accepted, Kept}
 use Rattle.sketch.specs.Sketches.{adopt_rows, counted, adopt_answer, tables_after, adopt_after, Adopting}
-use Rattle.sketch.specs.declared.counts.Counts.{Counts}
+use Rattle.file.specs.declared.tables.Counts.{Counts}
 
 -- check of what tables hold is check of their contents
 pub check_tables : (t : Tables) (ks : List ℕ) (ds : List Dimension) (es : List Entry) (a : Result ℕ Refusal)
@@ -71,12 +71,19 @@ module _ (bs : List ℕ) where
       none = (answered_ok (first_refusal (contents_rows (contents t))) (steps (contents t).plan) k (sym a)).0
 
       -- check accepts: the answer, and what is put in place
-      pub accepted_says : (was : Tables) (counts : Counts) → counts ≡ counted (contents t)
-          → (Ok counts ≡ adopt_answer bs) × (t ≡ adopt_after bs was) × Adopting bs (Ok counts)
-      accepted_says was counts same =
+      pub accepted_says : (was : Tables) → (Ok t.counts ≡ adopt_answer bs) × (t ≡ adopt_after bs was) × Adopting bs (Ok t.counts)
+      accepted_says was =
+          let same : t.counts ≡ counted (contents t) = ap (λ (u : Tables). u.counts) is_read.2 in
           let clear = behind_file ∙ none in
-          let answer : Ok counts ≡ adopt_answer bs = ap Ok same ∙ sym (ap₂ (λ o c. answered o (counted c)) clear is_read.1) in (
+          let answer : Ok t.counts ≡ adopt_answer bs = ap Ok same ∙ sym (ap₂ (λ o c. answered o (counted c)) clear is_read.1) in (
             answer,
             is_read.2 ∙ sym (ap₂ (λ o c. tables_after (answered o c) was) clear is_read.1),
             refusing (adopt_rows bs) (counted (held bs)) _ answer,
           )
+
+      -- and what the sketch keeps
+      pub accepted_kept : Within (contents t) → Kept t
+      accepted_kept w =
+          let accepted : Accepted (contents t) = ap (λ o. answered o (steps (contents t).plan)) none in
+          let same : Accepted (contents (stored (contents t))) = subst (λ u. Accepted (contents u)) is_read.2 accepted in
+          subst Kept (sym is_read.2) (stored_long (contents t) w, (w.few_kinds, w.few_dimensions, w.few_entries), same)

@@ -3,7 +3,7 @@ use Rattle.std.specs.Prelude.{◌≡◌, ℕ, List, ◌++◌, Ok, Err, codes, de
 use Rattle.graph.specs.Rows.{refusal}
 use Rattle.graph.specs.declared.refusal.Refusal.{Refusal}
 use Rattle.sketch.specs.Sketches.{counting}
-use Rattle.sketch.specs.declared.counts.Counts.{Counts}
+use Rattle.file.specs.declared.tables.Counts.{Counts}
 
 -- a word, then three numbers in decimal with a space between two, and a line feed
 abbrev pub line_of : List ℕ → ℕ × ℕ × ℕ → List ℕ
@@ -14,6 +14,10 @@ line_of word numbers =
 abbrev pub line : Result Counts Refusal → List ℕ
 line (Ok c) = line_of (codes "yes ") (c.elements, c.dimensions, c.entries)
 line (Err f) = line_of (codes "no ") (f.layer, f.number, f.place)
+
+-- the bytes of the longest line: a word of four, three numbers of at most twenty digits, two spaces and a line feed
+abbrev pub longest_line : ℕ
+longest_line = 67
 
 -- two outcomes and their lines
 abbrev pub ReportExamples : Type 0

@@ -8,7 +8,7 @@ use Rattle.file.specs.Contents.{Contents, holding, contents, stored}
 use Rattle.file.specs.Files.{Bytes, file_rows, held, write}
 use Rattle.file.specs.declared.tables.Tables.{Tables}
 use Rattle.sketch.specs.Keeping.{contents_rows}
-use Rattle.sketch.specs.declared.counts.Counts.{Counts}
+use Rattle.file.specs.declared.tables.Counts.{Counts}
 use Rattle.sketch.specs.declared.sketch.Sketch.{Sketch}
 
 -- a newly made sketch: two points, one dimension of grade 0, a plan of one leaf

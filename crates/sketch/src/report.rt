@@ -3,7 +3,7 @@ ghost use Rattle.std.specs.Prelude.{◌≡◌, ◌≤◌, true, length, is_ok, I
 ghost use Rattle.graph.specs.Rows.{told};
 ghost use Rattle.sketch.specs.SketchFaults.{sketch_refusal};
 ghost use Rattle.sketch.specs.Buffers.{put_answer, put_after};
-ghost use Rattle.sketch.specs.Reports.{line, line_of, ReportExamples};
+ghost use Rattle.sketch.specs.Reports.{line, line_of, longest_line, ReportExamples};
 
 use crate::buffer::put;
 use crate::counts::Counts;
@@ -23,7 +23,7 @@ pub fn report(outcome: Result<Counts, SketchFault>, buffer: &mut [u8]) -> Result
     ensures answer { told sketch_refusal result ≡ put_answer (line (told sketch_refusal outcome)) buffer.old }
     ensures within { IfOk result (λ n. n ≤ length buffer.old) }
     ensures after { buffer.new ≡ put_after (line (told sketch_refusal outcome)) buffer.old }
-    ensures room { LONGEST_LINE ≤ length buffer.old → is_ok result ≡ true }
+    ensures room { longest_line ≤ length buffer.old → is_ok result ≡ true }
 {
     put(line(outcome).as_str().as_bytes(), buffer)
 }

@@ -1,6 +1,5 @@
 //! A sketch: its tables, and the promise that they hold a list with an accepted plan.
-ghost use Rattle.file.specs.Contents.{contents};
-ghost use Rattle.sketch.specs.Keeping.{Accepted};
+ghost use Rattle.sketch.specs.Keeping.{Kept};
 
 use file::tables::Tables;
 
@@ -8,7 +7,7 @@ use file::tables::Tables;
 #[derive(Drop)]
 pub struct Sketch {
     tables: Tables,
-    ghost kept: { Accepted (contents tables) },
+    ghost kept: { Kept tables },
 }
 
 pub mod calls;

@@ -12,12 +12,12 @@ use crate::buffer::put;
 use crate::counts::Counts;
 use crate::faults::SketchFault;
 use crate::sketch::Sketch;
-use arrayvec::ArrayVec;
 use file::decode::decode;
 use file::encode::encode;
 use file::parts::FileParts;
 use file::tables::Tables;
 use graph::dimension::Dimension;
+use graph::limits::{MOST_DIMENSIONS, MOST_ELEMENTS, MOST_ENTRIES};
 use graph::list::PlateList;
 use plan::check::check;
 use plan::entry::Entry;
@@ -27,17 +27,17 @@ impl Sketch {
     pub fn new() -> Sketch
         ensures { result.tables ≡ stored first_contents }
     {
-        let mut kinds = ArrayVec::new();
-        kinds.push(0);
-        kinds.push(0);
-        let mut dimensions = ArrayVec::new();
-        dimensions.push(Dimension::plain(0, 1));
-        let mut plan = ArrayVec::new();
-        plan.push(Entry::Leaf { place: 0 });
+        let mut dimensions = [Dimension::plain(0, 0); MOST_DIMENSIONS];
+        dimensions[0].higher = 1;
         let tables = Tables {
-            kinds,
+            kinds: [0; MOST_ELEMENTS],
             dimensions,
-            plan,
+            plan: [Entry::Leaf { place: 0 }; MOST_ENTRIES],
+            counts: Counts {
+                elements: 2,
+                dimensions: 1,
+                entries: 1,
+            },
         };
         Sketch { tables }
     }
@@ -46,14 +46,14 @@ impl Sketch {
     pub fn kinds(&self) -> &[u8]
         ensures { result.now ≡ (contents self.now.tables).kinds }
     {
-        self.tables.kinds.as_slice()
+        self.list().kinds
     }
 
     /// The dimensions in their order.
     pub fn dimensions(&self) -> &[Dimension]
         ensures { result.now ≡ (contents self.now.tables).dimensions }
     {
-        self.tables.dimensions.as_slice()
+        self.list().dimensions
     }
 
     /// Both: the sketch's list.
@@ -69,7 +69,7 @@ impl Sketch {
         ensures value { result.now ≡ (contents self.now.tables).plan }
         ensures accepted { Accepted (contents self.now.tables) }
     {
-        self.tables.plan.as_slice()
+        self.tables.plan()
     }
 
     /// Reads a file and puts its list and plan in place of the sketch's, if check accepts them. Answers how many elements,
@@ -82,14 +82,9 @@ impl Sketch {
         ensures file { OnOk result (sketch_file self.new ≡ bytes.now) }
     {
         let tables = decode(bytes)?;
-        check(tables.list(), tables.plan.as_slice())?;
-        let counts = Counts {
-            elements: tables.kinds.len(),
-            dimensions: tables.dimensions.len(),
-            entries: tables.plan.len(),
-        };
+        check(tables.list(), tables.plan())?;
         self.tables = tables;
-        Ok(counts)
+        Ok(tables.counts)
     }
 
     /// Writes the sketch's file at the start of the buffer that the caller lends, leaves the rest, and answers the file's length. A

@@ -9,7 +9,7 @@ use Rattle.sketch.proofs.sketch.Sketch.save.Goals as goal
 pub invariant_of-parts : goal.invariant_of-parts
 invariant_of-parts c =
     let s = c.args.self.now in
-    record { within = parts_fit (contents s.tables) s.kept _ _ _ c.list.ensures.kinds c.list.ensures.dimensions c.plan.ensures.value }
+    record { within = parts_fit (contents s.tables) s.kept.2 _ _ _ c.list.ensures.kinds c.list.ensures.dimensions c.plan.ensures.value }
 
 pub returns : goal.returns
 returns c =
@@ -23,5 +23,5 @@ returns c =
       within = c.put.ensures.within;
       after = c.put.ensures.after ∙ ap (λ l. put_after l c.args.buffer.now) text;
       room = λ h. search rules;
-      file = one_file (contents s.tables) s.kept;
+      file = one_file (contents s.tables) s.kept.2;
     }
